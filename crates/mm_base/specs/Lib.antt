@@ -1,0 +1,5 @@
+pub mod Files
+pub mod Memory
+pub mod Name
+pub mod Outside
+pub mod Sink
