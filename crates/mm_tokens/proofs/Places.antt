@@ -1,11 +1,13 @@
 -- Where runs start and end.
-use Rattle.std.proofs.Common.{◌≡◌, ℕ, zero, suc, ◌+◌, ◌-◌, ◌<◌, ◌≤◌, Bool, true, false, not, List, [], ◌∷◌, length, drop, get_or, refl, sym, ◌∙◌, ap, arith, ◌⊎◌, inl, inr, add-zero, length-drop, nat_eq}
+use Rattle.std.proofs.Common.{◌≡◌, ℕ, zero, suc, ◌+◌, ◌-◌, ◌<◌, ◌≤◌, Bool, true, false, not, List, [], ◌∷◌, length, take, drop, get_or, refl, sym, ◌∙◌, ap, arith, ◌⊎◌, inl, inr, add-zero, length-drop, nat_eq}
 use Rattle.std.proofs.lemmas.List.{get_or-drop, get_or_past}
 use Rattle.std.proofs.lemmas.List.Sums.{position_or_len_is, passes_at_first}
 use Rattle.std.proofs.lemmas.Grind.{common_steps}
+use Rattle.std.proofs.lemmas.Bool.{false_from_ne_true}
 use Rattle.std.specs.List.{position_or_len}
+use Rattle.memchr.specs.Find.{Nowhere, Passes, is_byte}
 use Rattle.mm_tokens.specs.Bytes.{is_graphic}
-use Rattle.mm_tokens.specs.Runs.{IsBoundary, is_start, run_end, runs_from, runs_after}
+use Rattle.mm_tokens.specs.Runs.{IsBoundary, is_start, is_closing, run_end, runs_from, runs_after}
 
 -- what fixes the end of a run
 pub run_end_is : (bytes : List ℕ) (s e : ℕ) → s ≤ e → e ≤ length bytes
@@ -42,6 +44,34 @@ pub fails_more : (test : ℕ → Bool) (from k : ℕ) → ((j : ℕ) → from �
 fails_more test from k below here j low high =
     let which : (j < k) ⊎ (j ≡ k) = grind arith in
     elim which [ inl h ↦ below j low h | inr e ↦ rw e here ]
+
+-- a test that fails below `at`, and from there below k, fails below k
+pub fails_further : (test : ℕ → Bool) (from at k : ℕ) → ((j : ℕ) → from ≤ j → j < at → test j ≡ false)
+    → ((j : ℕ) → at ≤ j → j < k → test j ≡ false) → (j : ℕ) → from ≤ j → j < k → test j ≡ false
+fails_further test from at k below later j low high =
+    let which : (j < at) ⊎ (at ≤ j) = grind arith in
+    elim which [ inl h ↦ below j low h | inr h ↦ later j h high ]
+
+-- no `$)` starts where no `$` stands
+no_dollar : (bytes : List ℕ) (k : ℕ) → nat_eq (get_or bytes k 0) 36 ≡ false → is_closing bytes k ≡ false
+no_dollar bytes k other = grind (arith, common_steps, other)
+
+-- the slice from `from` on
+pub rest_slice : (bytes : List ℕ) (from : ℕ) → take (length bytes - from) (drop from bytes) ≡ drop from bytes
+rest_slice bytes from = grind (arith, common_steps)
+
+-- no `$` stands at the `skip` places from `from` on
+pub no_closing : (bytes : List ℕ) (from skip : ℕ) → Nowhere (Passes (is_byte 36) (drop from bytes)) 0 skip
+    → (k : ℕ) → from ≤ k → k < from + skip → is_closing bytes k ≡ false
+no_closing bytes from skip nowhere k low high =
+    let there : from + (k - from) ≡ k = omega arith in
+    no_dollar bytes k (false_from_ne_true _ (λ is. nowhere (k - from) (omega arith) (omega arith) (rw (get_or-drop from bytes (k - from) 0, there) is)))
+
+-- the same up to the end
+pub no_closing_after : (bytes : List ℕ) (from : ℕ) → Nowhere (Passes (is_byte 36) (drop from bytes)) 0 (length (drop from bytes))
+    → (k : ℕ) → from ≤ k → k < length bytes → is_closing bytes k ≡ false
+no_closing_after bytes from nowhere k low high =
+    no_closing bytes from (length (drop from bytes)) nowhere k low (omega (arith, length-drop from bytes))
 
 pub runs_end : (bytes : List ℕ) (p : ℕ) → length bytes ≤ p → runs_after bytes p ≡ []
 unfolding runs_from

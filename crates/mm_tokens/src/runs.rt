@@ -68,6 +68,19 @@ fn closes(bytes: &[u8], place: usize) -> bool
         && !continues(bytes, place + 2)
 }
 
+/// The first place from `from` on where `$` stands. No run that is exactly `$)` starts between the two.
+fn next_dollar(bytes: &[u8], from: usize) -> Option<usize>
+    requires { from ≤ length bytes.now }
+    ensures dollar { IfSome result (λ place. slice_index bytes.now place ≡ 36) }
+    ensures low { IfSome result (λ place. from ≤ place) }
+    ensures within { IfSome result (λ place. place < length bytes.now) }
+    ensures before { IfSome result (λ place. (k : ℕ) → from ≤ k → k < place → is_closing bytes.now k ≡ false) }
+    ensures none { IfNone result ((k : ℕ) → from ≤ k → k < length bytes.now → is_closing bytes.now k ≡ false) }
+{
+    let skip = memchr::memchr(b'$', &bytes[from..])?;
+    Some(from + skip)
+}
+
 /// The first place from `from` on where a run starts that is exactly `$)`.
 pub(crate) fn closing(bytes: &[u8], from: usize) -> Option<usize>
     requires { from ≤ length bytes.now }
@@ -76,12 +89,12 @@ pub(crate) fn closing(bytes: &[u8], from: usize) -> Option<usize>
     ensures before { IfSome result (λ place. (k : ℕ) → from ≤ k → k < place → is_closing bytes.now k ≡ false) }
     ensures none { IfNone result ((k : ℕ) → from ≤ k → k < length bytes.now → is_closing bytes.now k ≡ false) }
 {
-    let mut place = from;
-    while place < bytes.len() {
+    let mut at = from;
+    while let Some(place) = next_dollar(bytes, at) {
         if closes(bytes, place) {
             return Some(place);
         }
-        place += 1;
+        at = place + 1;
     }
     None
 }

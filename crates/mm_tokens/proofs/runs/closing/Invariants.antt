@@ -4,10 +4,10 @@ use Rattle.mm_tokens.proofs.runs.closing.Given as goal
 
 abbrev pub invariant-loop-place : goal.invariant-loop-place
 invariant-loop-place l = record {
-  low : l.from ≤ l.place;
-  within : l.place ≤ length l.bytes;
-  none : (k : ℕ) → l.from ≤ k → k < l.place → is_closing l.bytes k ≡ false;
+  low : l.from ≤ l.at;
+  within : l.at ≤ length l.bytes;
+  none : (k : ℕ) → l.from ≤ k → k < l.at → is_closing l.bytes k ≡ false;
 }
 
 abbrev pub decreases-loop-place : goal.decreases-loop-place
-decreases-loop-place l = length l.bytes - l.place
+decreases-loop-place l = length l.bytes - l.at

@@ -1,0 +1,8 @@
+//! Whole sessions of `mmpa`, with the databases that they read: what the layers say together.
+#![tactic(auto)]
+
+pub mod databases;
+#[cfg(test)]
+mod first_path;
+#[cfg(test)]
+mod session;

@@ -1,0 +1,158 @@
+-- The tables of a database that was read.
+use Rattle.std.proofs.Common.{◌≡◌, ◌<◌, ◌≤◌, ℕ, Bool, true, false, ◌&&◌, List, [], ◌∷◌, Option, None, Some, length, take, position, nat_eq, Result, Ok, Err, is_ok, refl, sym, ap, ◌∙◌, subst, arith}
+use Rattle.std.proofs.lemmas.Bool.{true≢false}
+use Rattle.std.proofs.lemmas.List.{length-take}
+use Rattle.std.specs.List.{list_any}
+use Rattle.mm_tokens.specs.Bytes.{is_bad}
+use Rattle.mm_tokens.specs.Pieces.{pieces_of, open_in}
+use Rattle.mm_scope.specs.Answered.{Refuses, not_yet}
+use Rattle.mm_scope.specs.Built.{has_built_form}
+use Rattle.mm_scope.specs.ByTables.{tables_of}
+use Rattle.mm_scope.specs.Contents.{events_in, events_of, is_read, is_built, labels_of, statements_of, symbols_of, active_at, past_before, IsSound}
+use Rattle.mm_scope.specs.Contexts.{Context, Fails, context_of, state_of}
+use Rattle.mm_scope.specs.Databases.{nothing_read, unless_begun, unless_open, at_the_end, read_by, database_of}
+use Rattle.mm_scope.specs.Events.{Event, put, symbols, labels, statements, active_hypotheses, open_blocks}
+use Rattle.mm_scope.specs.Judged.{is_long, judged, clean, before_bad}
+use Rattle.mm_scope.specs.Keeps.{Keeps}
+use Rattle.mm_scope.specs.Looks.{look_back}
+use Rattle.mm_scope.specs.Reading.{after, read_from}
+use Rattle.mm_scope.specs.Steps.{State}
+use Rattle.mm_scope.specs.Until.{is_active_by}
+use Rattle.mm_scope.specs.declared.fault.ReadFault.{ReadFault}
+use Rattle.mm_scope.specs.declared.fault.ReadFault.TheVariants as fault
+use Rattle.mm_scope.specs.declared.mode.Mode.{Mode}
+use Rattle.mm_scope.specs.declared.mode.Mode.TheVariants as mode
+use Rattle.mm_scope.specs.declared.reader.Reader.{Reader}
+use Rattle.mm_scope.proofs.Bridge.{read_matches}
+use Rattle.mm_scope.proofs.Held.{Held}
+use Rattle.mm_scope.proofs.Ordered.{ordered}
+use Rattle.mm_scope.proofs.Placed.{ProofsPlaced, Placed, AllPlaced, placed_read, all_placed}
+use Rattle.mm_scope.proofs.Sound.{StatementSound}
+use Rattle.mm_scope.proofs.Whole.{IfFine, context_at}
+
+-- proofs stand among the bytes
+end_placed : (n : ℕ) (s : State (List Event)) → ProofsPlaced n s.context → (ps : List ℕ) (m : Mode) → IfFine (unless_open (record s { mode = m }) ps) (ProofsPlaced n)
+end_placed n s p [] mode.Start = p
+end_placed n s p [] _ = tt
+end_placed n s p (q ∷ qs) m = tt
+
+the_end_placed : (n : ℕ) (s : State (List Event)) → ProofsPlaced n s.context → (bad : Option ℕ) (long : Bool) (unclosed : Option ℕ) → IfFine (at_the_end s bad long unclosed) (ProofsPlaced n)
+the_end_placed n s p (Some q) long unclosed = tt
+the_end_placed n s p None true unclosed = tt
+the_end_placed n s p None false (Some q) = tt
+the_end_placed n s p None false None = end_placed n s p (open_blocks s.context) s.mode
+
+after_placed : (n : ℕ) (r : Result (State (List Event)) ReadFault) → IfFine r (Placed n) → (bad : Option ℕ) (long : Bool) (unclosed : Option ℕ)
+    → IfFine (after r (λ s. at_the_end s bad long unclosed)) (ProofsPlaced n)
+after_placed n (Ok s) g bad long unclosed = the_end_placed n s g.proofs bad long unclosed
+after_placed n (Err e) g bad long unclosed = tt
+
+read_placed : (bytes : List ℕ) (long : Bool) → IfFine (read_by bytes long) (ProofsPlaced (length (clean bytes)))
+read_placed bytes long =
+    let text : List ℕ = clean bytes in
+    after_placed (length text) (read_from put look_back text nothing_read (pieces_of text))
+    (placed_read text (length text) (pieces_of text) nothing_read 0 (omega arith) (ordered text) (record { proofs = tt; begun = tt }))
+    (position is_bad bytes) long (open_in (pieces_of text))
+
+clean_by : (bytes : List ℕ) (bad : Option ℕ) → length (before_bad bytes bad) ≤ length bytes
+clean_by bytes None = omega arith
+clean_by bytes (Some p) = omega (arith, length-take p bytes)
+
+readable_length : (bytes : List ℕ) → length (clean (judged bytes)) ≤ length bytes
+readable_length bytes = omega (arith, clean_by (judged bytes) (position is_bad (judged bytes)), length-take 134217729 bytes)
+
+all_up : (low high : ℕ) (past : List Event) → low ≤ high → AllPlaced low (statements past) → AllPlaced high (statements past)
+all_up low high past h all id small = ((all id small).0, omega (arith, h, (all id small).1))
+
+places : (bytes : List ℕ) (past : List Event) → database_of bytes ≡ Ok past → AllPlaced (length bytes) (statements past)
+unfolding database_of
+places bytes past e =
+    all_up (length (clean (judged bytes))) (length bytes) past (readable_length bytes) (all_placed (length (clean (judged bytes))) past
+    (subst (λ r. IfFine r (ProofsPlaced (length (clean (judged bytes))))) e (read_placed (judged bytes) (is_long bytes))))
+
+module _ (bytes : List ℕ) (past : List Event) (e : database_of bytes ≡ Ok past) (c : Context) (same : c ≡ context_at past) (held : Held past) where
+  read : is_read bytes ≡ true
+  unfolding is_read
+  read = ap is_ok e
+
+  events : events_of bytes ≡ past
+  unfolding events_of
+  events = ap events_in e
+
+  symbols_kept : c.table.texts ≡ symbols_of bytes
+  unfolding symbols_of
+  symbols_kept = ap (λ x. x.table.texts) same ∙ held.agrees.texts ∙ ap symbols (sym events)
+
+  labels_kept : c.labels ≡ labels_of bytes
+  unfolding labels_of
+  labels_kept = ap (λ x. x.labels) same ∙ held.agrees.labelled ∙ ap labels (sym events)
+
+  statements_there : statements_of bytes ≡ statements past
+  unfolding statements_of
+  statements_there = ap statements events
+
+  statements_kept : c.statements ≡ statements_of bytes
+  statements_kept = ap (λ x. x.statements) same ∙ held.agrees.stated ∙ sym statements_there
+
+  labels_there : labels_of bytes ≡ labels past
+  unfolding labels_of
+  labels_there = ap labels events
+
+  active : (id at : ℕ) → at < length (labels_of bytes) → list_any (nat_eq id) (active_at bytes at) ≡ is_active_by c.until id at
+  unfolding active_at
+  active id at small =
+      ap (λ p. list_any (nat_eq id) (active_hypotheses (past_before at p))) events ∙ held.hypotheses.was id at (subst (λ ls. at < length ls) labels_there small)
+      ∙ ap (λ x. is_active_by x.until id at) (sym same)
+
+  until_kept : length c.until ≡ length (labels_of bytes)
+  until_kept = ap (λ x. length x.until) same ∙ held.hypotheses.sizes ∙ sym (ap length labels_there)
+
+  counted : length (statements_of bytes) ≡ length (labels_of bytes)
+  counted = ap length statements_there ∙ held.sound.counted ∙ sym (ap length labels_there)
+
+  sound : (id : ℕ) → id < length (labels_of bytes) → IsSound bytes id
+  sound id small =
+      let inside : id < length (statements past) = omega (arith, small, ap length statements_there, counted) in
+      let s : StatementSound (statements_of bytes) id = subst (λ ss. StatementSound ss id) (sym statements_there) (held.sound.all id inside) in
+      let p : AllPlaced (length bytes) (statements_of bytes) = subst (AllPlaced (length bytes)) (sym statements_there) (places bytes past e) in
+      let there : id < length (statements_of bytes) = omega (arith, small, counted) in
+      record {
+        earlier = s.earlier;
+        hypotheses = s.hypotheses;
+        stated = s.stated;
+        pair = s.pair;
+        ordered = (p id there).0;
+        within = (p id there).1;
+      }
+
+-- so a database may keep the tables of the reader
+pub keeps : (bytes : List ℕ) (r : Reader) → tables_of bytes ≡ Ok (state_of r) → Keeps bytes r.symbols.texts r.labels r.statements.items r.until.items
+keeps bytes r e =
+    let m = read_matches bytes (state_of r) e in
+    record {
+      read = read bytes m.0 m.1 (context_of r) m.2 m.3;
+      symbols_kept = symbols_kept bytes m.0 m.1 (context_of r) m.2 m.3;
+      labels_kept = labels_kept bytes m.0 m.1 (context_of r) m.2 m.3;
+      statements_kept = statements_kept bytes m.0 m.1 (context_of r) m.2 m.3;
+      active = λ id at own small. active bytes m.0 m.1 (context_of r) m.2 m.3 id at small;
+      until_kept = until_kept bytes m.0 m.1 (context_of r) m.2 m.3;
+      counted = counted bytes m.0 m.1 (context_of r) m.2 m.3;
+      sound = sound bytes m.0 m.1 (context_of r) m.2 m.3;
+    }
+
+-- a fault is a refusal
+unread : (bytes : List ℕ) (e : ReadFault) → database_of bytes ≡ Err e → is_built bytes ≡ false
+unfolding is_built is_read
+unread bytes e h = ap (λ r. is_ok r && has_built_form bytes) h
+
+pub refused : (bytes : List ℕ) (e : ReadFault) → Fails e (database_of bytes) → Refuses bytes (not_yet e)
+refused bytes fault.Memory h = tt
+refused bytes e h = unread bytes e h
+
+pub built : (bytes : List ℕ) → is_read bytes ≡ true → has_built_form bytes ≡ true → is_built bytes ≡ true
+unfolding is_built
+built bytes e f = ap (λ b. b && has_built_form bytes) e ∙ f
+
+pub not_built : (bytes : List ℕ) → is_read bytes ≡ true → has_built_form bytes ≡ false → is_built bytes ≡ false
+unfolding is_built
+not_built bytes e f = ap (λ b. b && has_built_form bytes) e ∙ f

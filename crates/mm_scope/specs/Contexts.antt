@@ -1,0 +1,179 @@
+-- What the reader keeps: tables of what is in force now, and what ends with the blocks that are open.
+use Rattle.std.specs.Prelude.{◌≡◌, ℕ, ◌-◌, true, false, not, ◌==◌, List, [], ◌∷◌, ◌++◌, Option, None, Some, Result, Ok, Err, length, take, drop, map, slice_get, slice_index, if◌then◌else◌, fold}
+use Rattle.std.specs.List.{list_any}
+use Rattle.std.specs.Str.{bytes_eq}
+use Rattle.mm_tokens.specs.declared.pieces.Span.{Span}
+use Rattle.mm_scope.specs.Events.{Event, constant, variable, float, essential, asserted, theorem, distinct, opened, closed, with_text}
+use Rattle.mm_scope.specs.Keeps.{stated}
+use Rattle.mm_scope.specs.Mandatory.{mandatory_of}
+use Rattle.mm_scope.specs.Standings.{Standings}
+use Rattle.mm_scope.specs.Stated.{Stated}
+use Rattle.mm_scope.specs.Steps.{Answers, State}
+use Rattle.mm_scope.specs.Tables.{nothing, found_in, with_symbol, with_state, standing_at}
+use Rattle.mm_scope.specs.Until.{ended_before}
+use Rattle.mm_scope.specs.declared.table.Standing.{Standing}
+use Rattle.mm_scope.specs.declared.statement.Kind.{Kind}
+use Rattle.mm_scope.specs.declared.statement.Kind.TheVariants as kind
+use Rattle.mm_scope.specs.declared.ending.Ending.{Ending}
+use Rattle.mm_scope.specs.declared.ending.Ending.TheVariants.{Active, Floated}
+use Rattle.mm_scope.specs.declared.ending.Block.{Block}
+use Rattle.mm_scope.specs.declared.reader.Reader.{Reader}
+use Rattle.mm_scope.specs.declared.mode.Mode.TheVariants as mode
+use Rattle.mm_scope.specs.declared.fault.ReadFault.{ReadFault}
+use Rattle.mm_scope.specs.declared.fault.ReadFault.TheVariants.{Memory}
+
+pub record Context : Type 0 where
+  pub table : Standings
+  pub labels : List (List ℕ)
+  pub statements : List Stated
+  pub until : List (Option ℕ)
+  pub endings : List Ending
+  pub hypotheses : List ℕ
+  pub blocks : List Block
+
+abbrev pub context_of : Reader → Context
+context_of r = record {
+  table = r.symbols;
+  labels = r.labels;
+  statements = map stated r.statements.items;
+  until = r.until.items;
+  endings = r.endings.items;
+  hypotheses = r.hypotheses.items;
+  blocks = r.blocks.items;
+}
+
+abbrev pub state_of : Reader → State Context
+state_of r = record {
+  context = context_of r;
+  mode = r.mode;
+  begun = r.begun;
+  label = r.label.items;
+  described = r.described;
+  buffer = r.buffer.items;
+  proof = r.proof;
+  comment = r.comment;
+}
+
+abbrev pub answers : Context → List ℕ → Answers
+answers c t =
+    let found = found_in c.table t in
+    record {
+      number = found.number;
+      known = found.known;
+      constant = found.standing.constant;
+      active = found.standing.active;
+      floated = found.standing.floated;
+      label = list_any (bytes_eq t) c.labels;
+      deep = not (length c.blocks == 0);
+    }
+
+abbrev pub activated : Standing → Standing
+activated s = record s { active = true }
+
+abbrev pub with_float : Standing → Standing
+with_float s = record s { floated = true }
+
+-- one labelled statement more, with its label and until when it is active
+abbrev pub with_statement : Context → List ℕ → Stated → Option ℕ → Context
+with_statement c l s u = record c {
+  labels = with_text c.labels l;
+  statements = c.statements ++ s ∷ [];
+  until = c.until ++ u ∷ [];
+}
+
+abbrev pub with_hypothesis : Context → List ℕ → Kind → List ℕ → Option Span → Context
+with_hypothesis c l k ss d = record (with_statement c l (record { kind = k; symbols = ss; mandatory = []; from = 0; to = 0; described = d }) None) {
+  hypotheses = c.hypotheses ++ length c.labels ∷ [];
+}
+
+abbrev pub with_assertion : Context → List ℕ → Kind → List ℕ → ℕ → ℕ → Option Span → Context
+with_assertion c l k ss from to d =
+    let needed : List ℕ = mandatory_of c.statements c.hypotheses ss in
+    with_statement c l (record { kind = k; symbols = ss; mandatory = needed; from = from; to = to; described = d }) (Some 0)
+
+-- what an ending ends
+abbrev pub ended : Standings → Ending → Standings
+ended t (Active n) = with_state t n (record (standing_at t n) { active = false })
+ended t (Floated n) = with_state t n (record (standing_at t n) { floated = false })
+
+abbrev pub close : Context → Option Block → Context
+close c None = c
+close c (Some b) = record c {
+  table = fold ended c.table (drop b.endings c.endings);
+  endings = take b.endings c.endings;
+  until = fold (ended_before (length c.labels)) c.until (drop b.hypotheses c.hypotheses);
+  hypotheses = take b.hypotheses c.hypotheses;
+  blocks = take (length c.blocks - 1) c.blocks;
+}
+
+unfoldable pub add_to : Context → Event → Context
+add_to c (constant t n) = record c { table = with_symbol c.table t (record { constant = true; active = false; floated = false }) }
+add_to c (variable t n) =
+    let found = found_in c.table t in
+    record c {
+      table = if found.known then with_state c.table found.number (activated found.standing) else with_symbol c.table t (activated nothing);
+      endings = c.endings ++ Active found.number ∷ [];
+    }
+add_to c (float l ss s) =
+    let v = slice_index ss 1 in
+    record (with_hypothesis c l kind.Float ss s) { table = with_state c.table v (with_float (standing_at c.table v)); endings = c.endings ++ Floated v ∷ [] }
+add_to c (essential l ss s) = with_hypothesis c l kind.Essential ss s
+add_to c (asserted l ss s) = with_assertion c l kind.Axiom ss 0 0 s
+add_to c (theorem l ss from to s) = with_assertion c l kind.Theorem ss from to s
+add_to c (distinct ss) = c
+add_to c (opened p) = record c { blocks = c.blocks ++ record { place = p; endings = length c.endings; hypotheses = length c.hypotheses } ∷ [] }
+add_to c closed = close c (slice_get c.blocks (length c.blocks - 1))
+
+-- the statement that is begun is done
+abbrev pub finished : State Context → Kind → List ℕ → Option ℕ → ℕ → ℕ → State Context
+finished s k ms u from to =
+    let d : Stated = record { kind = k; symbols = s.buffer; mandatory = ms; from = from; to = to; described = s.described } in
+    record s { context = with_statement s.context s.label d u; mode = mode.Start; buffer = [] }
+
+abbrev pub finished_hypothesis : State Context → Kind → State Context
+finished_hypothesis s k = record s { context = with_hypothesis s.context s.label k s.buffer s.described; mode = mode.Start; buffer = [] }
+
+abbrev pub finished_assertion : State Context → Kind → ℕ → ℕ → State Context
+finished_assertion s k from to = record s { context = with_assertion s.context s.label k s.buffer from to s.described; mode = mode.Start; buffer = [] }
+
+abbrev pub closed_block : State Context → State Context
+closed_block s = record s { context = close s.context (slice_get s.context.blocks (length s.context.blocks - 1)) }
+
+-- what a call left and returned is what reading gives, unless memory ran out
+abbrev pub Fails : {A : Type 0} → ReadFault → Result A ReadFault → Type 0
+Fails Memory read = Unit {0}
+Fails e read = read ≡ Err e
+
+abbrev pub Gives : Reader → Result (Unit {0}) ReadFault → Result (State Context) ReadFault → Type 0
+Gives new (Ok _) read = read ≡ Ok (state_of new)
+Gives new (Err e) read = Fails e read
+
+abbrev pub GivesReader : Result Reader ReadFault → Result (State Context) ReadFault → Type 0
+GivesReader (Ok r) read = read ≡ Ok (state_of r)
+GivesReader (Err e) read = Fails e read
+
+-- a reader that has read the pieces, and where the comment begins that is not ended
+abbrev pub GivesPieces : Reader → Result (Option ℕ) ReadFault → Result (State Context) ReadFault → Option ℕ → Type 0
+GivesPieces new (Ok unclosed) read place = (read ≡ Ok (state_of new)) × (unclosed ≡ place)
+GivesPieces new (Err e) read place = Fails e read
+
+-- before the first token
+abbrev pub empty_state : State Context
+empty_state = record {
+  context = record {
+    table = record { texts = []; standings = [] };
+    labels = [];
+    statements = [];
+    until = [];
+    endings = [];
+    hypotheses = [];
+    blocks = [];
+  };
+  mode = mode.Start;
+  begun = 0;
+  label = [];
+  described = None;
+  buffer = [];
+  proof = 0;
+  comment = None;
+}

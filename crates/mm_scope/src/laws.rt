@@ -1,0 +1,31 @@
+//! What holds of each database.
+
+ghost use Rattle.std.specs.Prelude.{◌≡◌, take};
+ghost use Rattle.mm_scope.specs.Contents.{events_of, is_built};
+ghost use Rattle.mm_scope.specs.Databases.{database_of};
+ghost use Rattle.mm_scope.specs.Laws.{SymbolsAreActive, SymbolsAreNumbered, LabelsDiffer};
+ghost use Rattle.mm_scope.specs.Events.{symbols};
+
+/// A file longer than 134,217,728 bytes is judged by one byte more than that: what stands later changes nothing.
+pub fn first_bytes_decide(bytes: &[u8])
+    ensures read { database_of (take 134217729 bytes.now) ≡ database_of bytes.now }
+    ensures built { is_built (take 134217729 bytes.now) ≡ is_built bytes.now }
+{
+    let _ = bytes;
+}
+
+/// Where a statement stands, each of its symbols was declared: as a constant, or as a variable in a block that has not
+/// ended (Metamath book, section 4.1.3). And a symbol's number is the place of its text among all symbols.
+pub fn symbols_are_declared(bytes: &[u8])
+    ensures active { SymbolsAreActive (events_of bytes.now) }
+    ensures numbered { SymbolsAreNumbered (symbols (events_of bytes.now)) (events_of bytes.now) }
+{
+    let _ = bytes;
+}
+
+/// No two labelled statements have the same label.
+pub fn labels_differ(bytes: &[u8])
+    ensures { LabelsDiffer (events_of bytes.now) }
+{
+    let _ = bytes;
+}

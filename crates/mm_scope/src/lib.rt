@@ -1,0 +1,29 @@
+//! Statements, scopes and frames of a Metamath database.
+//!
+//! A database is a list of bytes; `Database::read` answers what it says, or its first fault (Metamath book, section 4.1).
+#![tactic(auto)]
+
+mod built;
+mod database;
+mod ending;
+mod fault;
+mod file;
+mod frame;
+mod laws;
+mod mandatory;
+mod marks;
+mod mode;
+mod names;
+mod reader;
+mod reading;
+mod statement;
+mod table;
+#[cfg(test)]
+mod tests;
+mod word;
+
+pub use database::{Database, StmtId, Sym};
+pub use fault::ReadFault;
+pub use frame::{Frame, Ids, Symbols};
+pub use laws::{first_bytes_decide, labels_differ, symbols_are_declared};
+pub use statement::Kind;

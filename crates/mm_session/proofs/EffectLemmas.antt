@@ -1,0 +1,245 @@
+-- What commands do, and what they leave alone.
+use Rattle.std.proofs.Common.{◌≡◌, ◌≢◌, ◌⊎◌, ◌+◌, ◌<◌, ◌≤◌, ℕ, Bool, true, false, IsTrue, List, [], length, take, Option, Some, None, Result, Ok, Err, IfOk, refl, sym, ◌∙◌, ap, subst, arith, nat_lt, min, inl, inr, if◌then◌else◌}
+use Rattle.std.specs.declared.alloc.AllocError.{AllocError}
+use Rattle.std.proofs.lemmas.List.{take_all}
+use Rattle.std.proofs.lemmas.Bool.{cases_lt}
+use Rattle.std.proofs.lemmas.Bool.Decides.{nat_tests}
+use Rattle.mm_base.specs.Files.{Map, Finds, Numbers, KeepsMap}
+use Rattle.mm_base.specs.declared.files.Fetched.{Fetched}
+use Rattle.mm_base.specs.declared.files.Files.{Ghosts as FilesOf}
+use Rattle.mm_scope.specs.Contents.{is_built, find_label, stated_at}
+use Rattle.mm_scope.specs.declared.statement.Kind.{Kind}
+use Rattle.mm_scope.specs.declared.statement.Kind.TheVariants.{Float, Essential, Axiom, Theorem}
+use Rattle.mm_stack.specs.declared.outcome.Verdict.{Verdict}
+use Rattle.mm_stack.specs.declared.outcome.Verdict.TheVariants.{Accepted, Refused}
+use Rattle.mm_stack.specs.Accepting.{verdict_of}
+use Rattle.mm_session.specs.declared.state.State.{State}
+use Rattle.mm_session.specs.declared.reply.Reply.{Reply}
+use Rattle.mm_session.specs.declared.reply.Reply.TheVariants as reply
+use Rattle.mm_session.specs.Effect.{Effect, Outcome, Fine, Starved, Faulted, Meets, ended, outcome, is_faulted, with_puts, add_put, reply_of}
+use Rattle.mm_session.specs.Effects.{read_bytes, read_found, read_with, verify_proof, verify_kind, verify_found, verify_with}
+use Rattle.mm_session.specs.Texts.{no_file_text, read_text, not_built_text, already_read_text}
+use Rattle.mm_session.specs.Calls.{Fails, Calls}
+use Rattle.mm_session.specs.Advance.{HasRun}
+use Rattle.mm_scope.proofs.ContentsLemmas.{is_built-length}
+
+-- a reply whose text takes memory
+pub meets_reply : (s : State) (e : Effect) (text : Result (List ℕ) AllocError) (refused : Bool) → IfOk text (λ t. t ≡ e.text) → refused ≡ e.refused → s ≡ e.state → e.free ≡ false → Meets e s (reply_of text refused) s
+meets_reply s e (Ok t) refused is same kept takes = record { text = is; refused = same; state = kept; faulted = λ y. cc; starved = λ y. cc }
+meets_reply s e (Err x) refused is same kept takes = record { text = refl; refused = refl; state = refl; faulted = λ y. cc; starved = λ y. takes }
+
+pub reply_sound : (text : Result (List ℕ) AllocError) (refused : Bool) (r : Reply) → r ≡ reply_of text refused → is_faulted r ≡ false
+reply_sound (Ok t) refused r e = rw e refl
+reply_sound (Err x) refused r e = rw e refl
+
+-- READ reaches the files, puts nothing and takes memory, where there is no database
+bytes_reach : (s : State) (bytes : List ℕ) (built : Bool) → (read_bytes s bytes built).reaches_files ≡ true
+bytes_reach s bytes true = refl
+bytes_reach s bytes false = refl
+
+read_reaches : (s : State) (name : List ℕ) (found : Option (List ℕ)) → (read_found s name found).reaches_files ≡ true
+read_reaches s name None = refl
+read_reaches s name (Some bytes) = bytes_reach s bytes (is_built bytes)
+
+bytes_put : (s : State) (bytes : List ℕ) (built : Bool) → (read_bytes s bytes built).put ≡ None
+bytes_put s bytes true = refl
+bytes_put s bytes false = refl
+
+read_put : (s : State) (name : List ℕ) (found : Option (List ℕ)) → (read_found s name found).put ≡ None
+read_put s name None = refl
+read_put s name (Some bytes) = bytes_put s bytes (is_built bytes)
+
+bytes_take : (s : State) (bytes : List ℕ) (built : Bool) → (read_bytes s bytes built).free ≡ false
+bytes_take s bytes true = refl
+bytes_take s bytes false = refl
+
+read_takes : (s : State) (name : List ℕ) (found : Option (List ℕ)) → (read_found s name found).free ≡ false
+read_takes s name None = refl
+read_takes s name (Some bytes) = bytes_take s bytes (is_built bytes)
+
+not_true : (b : Bool) → (b ≡ true → ⊥) → b ≡ false
+not_true true h = absurd (h refl)
+not_true false h = refl
+
+-- a file that is too long isn't of the built form
+too_long : (bytes : List ℕ) → 134217728 < length bytes → is_built bytes ≡ false
+too_long bytes lt = not_true (is_built bytes) (λ h. let le : length bytes ≤ 134217728 = is_built-length bytes h in omega arith)
+
+more_is_long : (n : ℕ) → nat_lt 134217729 n ≡ true → 134217728 < n
+more_is_long n h = grind (arith, nat_tests)
+
+not_more : (n : ℕ) → nat_lt 134217729 n ≡ false → n ≤ 134217729
+not_more n h = grind (arith, nat_tests)
+
+whole_file : (bytes : List ℕ) (f : Fetched) → Finds (Some bytes) 134217729 (Some f) → f.more ≡ false → f.bytes.items ≡ bytes
+whole_file bytes f h m = h.0 ∙ take_all 134217729 bytes (not_more (length bytes) (sym h.1 ∙ m))
+
+-- a file of the built form is read
+pub read_whole : (s : State) (name : List ℕ) (found : Option (List ℕ)) (f : Fetched) (database text : List ℕ) →
+    Finds found 134217729 (Some f) → f.more ≡ false → is_built f.bytes.items ≡ true → database ≡ f.bytes.items → text ≡ read_text f.bytes.items →
+    Meets (read_found s name found) s (reply.Done text false) (record { database = Some database })
+read_whole s name None f database text h m b d t = absurd h
+read_whole s name (Some bytes) f database text h m b d t =
+    let same : f.bytes.items ≡ bytes = whole_file bytes f h m in
+    let is : is_built bytes ≡ true = ap is_built (sym same) ∙ b in
+    rw is (record {
+      text = t ∙ ap read_text same;
+      refused = refl;
+      state = ap (λ (x : List ℕ). let s' : State = record { database = Some x } in s') (d ∙ same);
+      faulted = λ y. refl;
+      starved = λ y. refl;
+    })
+
+is_not_built : (bytes : List ℕ) (f : Fetched) (more : Bool) → f.more ≡ more → Finds (Some bytes) 134217729 (Some f) → (f.more ≡ true) ⊎ (is_built f.bytes.items ≡ false) → is_built bytes ≡ false
+is_not_built bytes f true m h o = too_long bytes (more_is_long (length bytes) (sym h.1 ∙ m))
+is_not_built bytes f false m h (inl long) = let no : false ≡ true = sym m ∙ long in cc
+is_not_built bytes f false m h (inr b) = ap is_built (sym (whole_file bytes f h m)) ∙ b
+
+-- any other is not
+pub read_other : (s : State) (name : List ℕ) (found : Option (List ℕ)) (f : Fetched) (r : Reply) →
+    Finds found 134217729 (Some f) → (f.more ≡ true) ⊎ (is_built f.bytes.items ≡ false) → r ≡ reply.Done not_built_text true →
+    Meets (read_found s name found) s r s
+read_other s name None f r h o e = absurd h
+read_other s name (Some bytes) f r h o e =
+    rw (e, is_not_built bytes f f.more refl h o) (record { text = refl; refused = refl; state = refl; faulted = λ y. refl; starved = λ y. refl })
+
+-- no file is there
+pub read_none : (s : State) (name : List ℕ) (found : Option (List ℕ)) (text : Result (List ℕ) AllocError) (r : Reply) →
+    Finds found 134217729 None → IfOk text (λ t. t ≡ no_file_text name) → r ≡ reply_of text true → Meets (read_found s name found) s r s
+read_none s name None text r f t e = rw e (meets_reply s (read_found s name None) text true t refl refl refl)
+read_none s name (Some bytes) text r f t e = absurd f
+
+-- the map that a fetch met: the files' own where it is told, and else any with what was found
+abbrev pub met : Bool → Map → Option (List ℕ) → Map
+met true map file asked = map asked
+met false map file asked = file
+
+met_told : (b : Bool) (map : Map) (file : Option (List ℕ)) → IsTrue b → met b map file ≡ map
+met_told true map file t = refl
+met_told false map file t = let no : false ≡ true = t in cc
+
+met_at : (b : Bool) (map : Map) (file : Option (List ℕ)) (name : List ℕ) → (IsTrue b → file ≡ map name) → met b map file name ≡ file
+met_at true map file name h = sym (h refl)
+met_at false map file name h = refl
+
+no_put : (o : Outcome) (s : State) (e : Effect) → e.put ≡ None → (ended o s e).put ≡ None
+no_put Fine s e h = h
+no_put Starved s e h = refl
+no_put Faulted s e h = refl
+
+outcome_is : (r : Reply) → is_faulted r ≡ true → outcome r ≡ Faulted
+outcome_is (reply.Done text refused) e = let no : false ≡ true = e in cc
+outcome_is reply.Starved e = let no : false ≡ true = e in cc
+outcome_is reply.Faulted e = refl
+
+outcome_was : (r : Reply) → outcome r ≡ Faulted → is_faulted r ≡ true
+outcome_was (reply.Done text refused) e = cc
+outcome_was reply.Starved e = cc
+outcome_was reply.Faulted e = refl
+
+-- a reply that tells of no file fault
+pub sound_is : (r : Reply) → outcome r ≢ Faulted → is_faulted r ≡ false
+sound_is (reply.Done text refused) n = refl
+sound_is reply.Starved n = refl
+sound_is reply.Faulted n = absurd (n refl)
+
+module _ {F : Type 0} (fs : FilesOf F) where
+  -- one call was made, and the reply tells whether it failed
+  calls_once : (old new : F) (failed : Bool) (r : Reply) → Numbers fs.tells_failing fs.calls fs.failing old new failed → (is_faulted r ≡ failed) → Calls fs old new true r
+  calls_once old new failed r n e = record {
+    told = n.told;
+    same = n.same;
+    none = λ t no. let x : true ≡ false = no in cc;
+    one = λ t fine yes. n.counted t;
+    fails = λ t y. let yes = outcome_was r y in elim (cases_lt (fs.calls old) 18446744073709551615) [
+      | inl lt ↦ (lt, (n.fails t lt).0 (sym e ∙ yes))
+      | inr ge ↦ (let no : failed ≡ false = n.never_past t ge in let yes' : failed ≡ true = sym e ∙ yes in cc)
+    ];
+    faulted = λ t fine yes f. outcome_is r (e ∙ (n.fails t f.0).1 f.1);
+  }
+
+  calls_none : (files : F) (r : Reply) → outcome r ≢ Faulted → Calls fs files files false r
+  calls_none files r n = record {
+    told = λ t. t;
+    same = λ t. refl;
+    none = λ t no. refl;
+    one = λ t fine yes. let x : false ≡ true = yes in cc;
+    fails = λ t y. absurd (n y);
+    faulted = λ t fine yes f. let x : false ≡ true = yes in cc;
+  }
+
+  -- a command that leaves the files alone
+  pub run_apart : (effect : Map → Effect) (before : State) (files : F) (r : Reply) (after : State) → Meets (effect (fs.lookup files)) before r after →
+      (effect (fs.lookup files)).reaches_files ≡ false → (effect (fs.lookup files)).put ≡ None → outcome r ≢ Faulted → HasRun fs effect before files r after files
+  run_apart effect before files r after meets far none sound = record {
+    map = fs.lookup files;
+    same = λ t. refl;
+    meets = meets;
+    files = λ t. sym (ap (λ (p : Option (List ℕ × List ℕ)). with_puts (fs.lookup files) (add_put p [])) (no_put (outcome r) before (effect (fs.lookup files)) none));
+    number = subst (λ (b : Bool). Calls fs files files b r) (sym far) (calls_none files r sound);
+  }
+
+  -- READ, which makes one call
+  pub run_found : (s : State) (name : List ℕ) (old new : F) (r : Reply) (after : State) (failed : Bool) (file : Option (List ℕ)) → (IsTrue (fs.tells new) → file ≡ fs.lookup old name) →
+      Meets (read_found s name file) s r after → KeepsMap fs.tells fs.lookup old new → Numbers fs.tells_failing fs.calls fs.failing old new failed → is_faulted r ≡ failed →
+      HasRun fs (λ map. read_found s name (map name)) s old r after new
+  run_found s name old new r after failed file same meets kept numbers e =
+      let map = met (fs.tells new) (fs.lookup old) file in record {
+        map = map;
+        same = λ t. met_told (fs.tells new) (fs.lookup old) file t;
+        meets = subst (λ (f : Option (List ℕ)). Meets (read_found s name f) s r after) (sym (met_at (fs.tells new) (fs.lookup old) file name same)) meets;
+        files = λ t. kept.same t ∙ sym (ap (λ (p : Option (List ℕ × List ℕ)). with_puts (fs.lookup old) (add_put p [])) (no_put (outcome r) s (read_found s name (map name)) (read_put s name (map name))));
+        number = subst (λ (b : Bool). Calls fs old new b r) (sym (read_reaches s name (map name))) (calls_once old new failed r numbers e);
+      }
+
+  pub run_fault : (s : State) (name : List ℕ) (old new : F) → KeepsMap fs.tells fs.lookup old new → Numbers fs.tells_failing fs.calls fs.failing old new true →
+      HasRun fs (λ map. read_found s name (map name)) s old reply.Faulted s new
+  run_fault s name old new kept numbers = run_found s name old new reply.Faulted s true (fs.lookup old name) (λ t. refl)
+      (record { text = refl; refused = refl; state = refl; faulted = λ y. read_reaches s name (fs.lookup old name); starved = λ y. cc }) kept numbers refl
+
+  pub run_starve : (s : State) (name : List ℕ) (old new : F) → KeepsMap fs.tells fs.lookup old new → Numbers fs.tells_failing fs.calls fs.failing old new false →
+      HasRun fs (λ map. read_found s name (map name)) s old reply.Starved s new
+  run_starve s name old new kept numbers = run_found s name old new reply.Starved s false (fs.lookup old name) (λ t. refl)
+      (record { text = refl; refused = refl; state = refl; faulted = λ y. cc; starved = λ y. read_takes s name (fs.lookup old name) }) kept numbers refl
+
+  -- READ, where there is a database
+  pub run_already : (s : State) (database : Option (List ℕ)) (bytes name : List ℕ) (files : F) (r : Reply) → database ≡ Some bytes → r ≡ reply.Done already_read_text true → HasRun fs (λ map. read_with s database map name) s files r s files
+  run_already s database bytes name files r e is = rw (e, is)
+      (run_apart (λ map. read_with s (Some bytes) map name) s files (reply.Done already_read_text true) s (record { text = refl; refused = refl; state = refl; faulted = λ y. cc; starved = λ y. cc }) refl refl (λ y. cc))
+
+proof_put : (s : State) (label : List ℕ) (v : Verdict) → (verify_proof s label v).put ≡ None
+proof_put s label Accepted = refl
+proof_put s label Refused = refl
+
+kind_put : (s : State) (label : List ℕ) (kind : Kind) (v : Verdict) → (verify_kind s label kind v).put ≡ None
+kind_put s label Theorem v = proof_put s label v
+kind_put s label Axiom v = refl
+kind_put s label Essential v = refl
+kind_put s label Float v = refl
+
+found_put : (s : State) (label bytes : List ℕ) (found : Option ℕ) → (verify_found s label bytes found).put ≡ None
+found_put s label bytes None = refl
+found_put s label bytes (Some id) = kind_put s label (stated_at bytes id).kind (verdict_of bytes id)
+
+-- VERIFY PROOF puts nothing, and leaves the files alone
+pub verify_put : (s : State) (database : Option (List ℕ)) (label : List ℕ) → (verify_with s database label).put ≡ None
+verify_put s None label = refl
+verify_put s (Some bytes) label = found_put s label bytes (find_label bytes label)
+
+proof_far : (s : State) (label : List ℕ) (v : Verdict) → (verify_proof s label v).reaches_files ≡ false
+proof_far s label Accepted = refl
+proof_far s label Refused = refl
+
+kind_far : (s : State) (label : List ℕ) (kind : Kind) (v : Verdict) → (verify_kind s label kind v).reaches_files ≡ false
+kind_far s label Theorem v = proof_far s label v
+kind_far s label Axiom v = refl
+kind_far s label Essential v = refl
+kind_far s label Float v = refl
+
+found_far : (s : State) (label bytes : List ℕ) (found : Option ℕ) → (verify_found s label bytes found).reaches_files ≡ false
+found_far s label bytes None = refl
+found_far s label bytes (Some id) = kind_far s label (stated_at bytes id).kind (verdict_of bytes id)
+
+pub verify_far : (s : State) (database : Option (List ℕ)) (label : List ℕ) → (verify_with s database label).reaches_files ≡ false
+verify_far s None label = refl
+verify_far s (Some bytes) label = found_far s label bytes (find_label bytes label)

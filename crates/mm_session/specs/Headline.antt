@@ -1,0 +1,81 @@
+-- What holds of a session that has ended.
+use Rattle.std.specs.Prelude.{◌≡◌, ◌<◌, ◌≤◌, ◌==◌, ℕ, zero, suc, nat_lt, if◌then◌else◌, Bool, true, false, IsTrue, List, [], ◌∷◌, ◌++◌, length, slice_index_or}
+use Rattle.mm_base.specs.declared.files.Files.{Ghosts as FilesOf}
+use Rattle.mm_base.specs.declared.sink.Sink.{Ghosts as SinkOf}
+use Rattle.mm_base.specs.Outside.{RoseBy}
+use Rattle.mm_base.specs.Sink.{Gains, GainsPart}
+use Rattle.mm_session.specs.declared.session.SessionEnd.{SessionEnd}
+use Rattle.mm_session.specs.declared.run.Run.{Run}
+use Rattle.mm_session.specs.Effect.{with_puts}
+use Rattle.mm_session.specs.Calls.{HasCause, FaultsExactly, Counted}
+use Rattle.mm_session.specs.Session.{Script, Maps, maps_of, session, turn, prompt, echo}
+use Rattle.mm_session.specs.Course.{Rise, AreApart, Follows, script, script_of}
+
+-- the numbers of the commands that starved: with status 5 the last command too
+abbrev pub starved_by : SessionEnd → List ℕ
+starved_by end = if end.status == 5 then end.starved.items ++ end.lines ∷ [] else end.starved.items
+
+-- the numbers of the commands that met a file fault: with status 6 the last command too
+abbrev pub faulted_by : SessionEnd → List ℕ
+faulted_by end = if end.status == 6 then end.faulted.items ++ end.lines ∷ [] else end.faulted.items
+
+-- the script of a session that has ended
+abbrev pub script_by : List (List ℕ) → Maps → SessionEnd → Script
+script_by commands maps end = script commands maps (starved_by end) (faulted_by end)
+
+-- what stands on the screen before the reply to command n, counted from 1
+abbrev pub before_reply : Script → ℕ → List ℕ
+before_reply s zero = []
+before_reply s (suc n) = (session s n).text ++ (prompt (session s n).state ++ echo (slice_index_or s.commands n []))
+
+-- what is written after the transcript of n commands: the prompt, and the next line or the end of the prompt's own
+abbrev pub next_text : Script → ℕ → List ℕ
+next_text s n = prompt (session s n).state ++ (if nat_lt n (length s.commands) then echo (slice_index_or s.commands n []) else 10 ∷ [])
+
+-- the status of a session that came to its end
+abbrev pub end_status : Bool → ℕ
+end_status refused = if refused then 1 else 0
+
+-- Every command was run, and the whole transcript was written.
+pub record EndsWhole {K : Type 0} (sk : SinkOf K) (s : Script) (opened : K) (end : SessionEnd) (screen : K) : Type 0 where
+  pub all : end.lines ≡ length s.commands
+  pub status : end.status ≡ end_status (session s end.lines).refused
+  pub transcript : Gains sk.tells sk.held opened screen ((session s end.lines).text ++ (prompt (session s end.lines).state ++ 10 ∷ []))
+
+-- The screen has failed, with the first bytes of the transcript on it.
+abbrev pub EndsCut : {K : Type 0} (sk : SinkOf K) (s : Script) (opened : K) (end : SessionEnd) (screen : K) → Type 0
+EndsCut sk s opened end screen =
+    GainsPart sk.tells sk.held opened screen (before_reply s end.lines) ((session s end.lines).text ++ next_text s end.lines)
+
+-- The last command was given up after its echo.
+pub record GivesUp {K : Type 0} (sk : SinkOf K) (s : Script) (opened : K) (end : SessionEnd) (screen : K) : Type 0 where
+  pub some : 0 < end.lines
+  pub transcript : Gains sk.tells sk.held opened screen (before_reply s end.lines)
+
+-- The session is the machine's over the maps that its commands met: over the files' own, where they tell it.
+pub record IsSession {F K : Type 0} (fs : FilesOf F) (sk : SinkOf K) (commands : List (List ℕ)) (begun : F) (opened : K) (end : SessionEnd) (files : F) (screen : K) : Type 0 where
+  pub maps : Maps
+  pub told : IsTrue (fs.tells files) → maps ≡ maps_of (fs.lookup begun)
+  -- what was written to the screen
+  pub whole : end.status < 2 → EndsWhole sk (script_by commands maps end) opened end screen
+  pub cut : end.status ≡ 4 → EndsCut sk (script_by commands maps end) opened end screen
+  pub given_up : 5 ≤ end.status → GivesUp sk (script_by commands maps end) opened end screen
+  -- what was put into the files
+  pub put : IsTrue (fs.tells files) → fs.lookup files ≡ with_puts (fs.lookup begun) (session (script_by commands maps end) end.lines).puts
+  -- the numbers are those of commands that were run, in order, and none is in both lists
+  pub starved : Rise 0 end.lines (starved_by end)
+  pub faulted : Rise 0 end.lines (faulted_by end)
+  pub apart : AreApart (starved_by end) (faulted_by end)
+  -- why commands gave up; and exactly why they met file faults, where none starved
+  pub causes : (k : ℕ) → k < end.lines → HasCause (turn (script_by commands maps end) k)
+  pub files_failed : RoseBy (length (faulted_by end)) (fs.faults begun) (fs.faults files)
+  pub faults_exactly : IsTrue (fs.tells_failing files) → starved_by end ≡ [] → (k : ℕ) → k < end.lines → FaultsExactly fs begun (turn (script_by commands maps end) k)
+
+-- The first n commands have been run, and their transcript is on the screen.
+pub record Reached {F K : Type 0} (fs : FilesOf F) (sk : SinkOf K) (commands : List (List ℕ)) (begun : F) (opened : K) (n : ℕ) (run : Run) (files : F) (screen : K) : Type 0 where
+  pub maps : Maps
+  pub lines : run.lines ≡ n
+  pub follows : Follows fs (script_of commands maps run) begun run.lines run.state run.refused files
+  pub counted : Counted fs (script_of commands maps run) begun run.lines files
+  pub gained : Gains sk.tells sk.held opened screen (session (script_of commands maps run) run.lines).text
+  pub count : sk.faults screen ≡ sk.faults opened

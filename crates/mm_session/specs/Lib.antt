@@ -1,0 +1,10 @@
+pub mod Advance
+pub mod Calls
+pub mod Command
+pub mod Course
+pub mod Effect
+pub mod Effects
+pub mod Headline
+pub mod Laws
+pub mod Session
+pub mod Texts

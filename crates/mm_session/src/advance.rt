@@ -1,0 +1,50 @@
+ghost use Rattle.std.specs.Prelude.{◌≡◌, ◌+◌, ◌<◌, IsTrue};
+ghost use Rattle.mm_session.specs.Advance.{Advances};
+
+use crate::reply::Reply;
+use crate::run::Run;
+use crate::step::step;
+use mm_base::Files;
+use std::alloc::Global;
+
+/// What has become of a command in its session.
+#[derive(Drop)]
+pub enum Progress {
+    /// The session goes on, with this reply.
+    Replied(Reply),
+    /// It is the 65th that found no memory.
+    Starved,
+    /// It is the 65th whose call on the files failed.
+    Faulted,
+}
+
+/// Runs the next command.
+pub fn advance<F: Files>(alloc: Global, run: &mut Run, files: &mut F, line: &[u8]) -> Progress
+    requires { run.old.lines + 1 < 18446744073709551616 }
+    ensures lines { run.new.lines ≡ run.old.lines + 1 }
+    ensures goes { (commands : _) (maps : _) (begun : _) → Advances ⟦<F as Files>⟧ commands maps begun run.old files.old line.now result run.new files.new }
+{
+    run.lines += 1;
+    match step(alloc, &mut run.state, files, line) {
+        Reply::Starved => {
+            if run.starved.is_full() {
+                return Progress::Starved;
+            }
+            run.starved.push(run.lines);
+            run.refused = true;
+            Progress::Replied(Reply::Starved)
+        }
+        Reply::Faulted => {
+            if run.faulted.is_full() {
+                return Progress::Faulted;
+            }
+            run.faulted.push(run.lines);
+            run.refused = true;
+            Progress::Replied(Reply::Faulted)
+        }
+        Reply::Done { text, refused } => {
+            run.refused = run.refused | refused;
+            Progress::Replied(Reply::Done { text, refused })
+        }
+    }
+}

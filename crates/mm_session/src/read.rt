@@ -1,0 +1,92 @@
+ghost use Rattle.std.specs.Prelude.{◌≡◌, ◌⊎◌, List, ℕ, None, IfOk, IsTrue, true, false};
+ghost use Rattle.mm_base.specs.Outside.{CountsFaults};
+ghost use Rattle.mm_scope.specs.Contents.{is_built};
+ghost use Rattle.mm_session.specs.Texts.{read_text};
+ghost use Rattle.mm_session.specs.Effect.{is_faulted};
+ghost use Rattle.mm_session.specs.Effects.{read_effect, read_found};
+ghost use Rattle.mm_session.specs.Advance.{HasRun};
+
+use crate::refusal::{already_read, no_file, not_built};
+use crate::reply::{Reply, reply_of};
+use crate::state::State;
+use crate::text::Text;
+use mm_base::{Fetched, Files, FilesFault, Memory};
+use mm_scope::{Database, Kind, ReadFault};
+use std::alloc::Global;
+
+// Why a file gives no database.
+#[derive(Drop)]
+enum NotLoaded {
+    NotBuilt,
+    Memory,
+}
+
+// One byte more than a database may have.
+const MOST: u64 = 134_217_729;
+
+/// Reads a database from a file.
+pub fn read<F: Files>(alloc: Global, state: &mut State, files: &mut F, name: &[u8]) -> Reply
+    ensures effect { HasRun ⟦<F as Files>⟧ (λ map. read_effect state.old map name.now) state.old files.old result state.new files.new }
+    ensures told { IsTrue (F.tells files.new) → IsTrue (F.tells files.old) }
+    ensures cause { CountsFaults (is_faulted result) (F.faults files.old) (F.faults files.new) }
+{
+    match &state.database {
+        Some(_) => already_read(alloc),
+        None => read_first(alloc, state, files, name),
+    }
+}
+
+// Reads a database, where there is none.
+fn read_first<F: Files>(alloc: Global, state: &mut State, files: &mut F, name: &[u8]) -> Reply
+    requires { state.old.database ≡ None }
+    ensures effect { HasRun ⟦<F as Files>⟧ (λ map. read_found state.old name.now (map name.now)) state.old files.old result state.new files.new }
+    ensures told { IsTrue (F.tells files.new) → IsTrue (F.tells files.old) }
+    ensures cause { CountsFaults (is_faulted result) (F.faults files.old) (F.faults files.new) }
+{
+    match files.fetch(alloc, name, MOST) {
+        Err(FilesFault::Failed) => Reply::Faulted,
+        Err(FilesFault::Memory) => Reply::Starved,
+        Ok(None) => reply_of(no_file(alloc, name), true),
+        Ok(Some(fetched)) => match load(alloc, fetched) {
+            Ok((database, text)) => {
+                state.database = Some(database);
+                Reply::Done {
+                    text,
+                    refused: false,
+                }
+            }
+            Err(NotLoaded::NotBuilt) => not_built(alloc),
+            Err(NotLoaded::Memory) => Reply::Starved,
+        },
+    }
+}
+
+// The database of a file, and the text that tells of it.
+fn load(alloc: Global, fetched: Fetched) -> Result<(Database, Text), NotLoaded>
+    ensures read { IfOk result (λ r. (r.0 ≡ fetched.bytes.items) × (r.1 ≡ read_text fetched.bytes.items)) }
+    ensures built { IfOk result (λ _. (is_built fetched.bytes.items ≡ true) × (fetched.more ≡ false)) }
+    ensures not_built { (result ≡ Err NotLoaded.NotBuilt) → (fetched.more ≡ true) ⊎ (is_built fetched.bytes.items ≡ false) }
+{
+    if fetched.more {
+        return Err(NotLoaded::NotBuilt);
+    }
+    match Database::read(alloc, fetched.bytes) {
+        Err((_, ReadFault::Memory)) => Err(NotLoaded::Memory),
+        Err(_) => Err(NotLoaded::NotBuilt),
+        Ok(database) => match tell(alloc, &database) {
+            Ok(text) => Ok((database, text)),
+            Err(_) => Err(NotLoaded::Memory),
+        },
+    }
+}
+
+#[tactic(auto, unfolding(crate::specs::Texts::read_text))]
+fn tell(alloc: Global, database: &Database) -> Result<Text, Memory>
+    ensures { IfOk result (λ text. text ≡ read_text database.now) }
+{
+    let labelled = database.count();
+    let axioms = database.count_of(Kind::Axiom);
+    let theorems = database.count_of(Kind::Theorem);
+    let line = format!(in alloc; "{labelled}, axioms {axioms}, theorems {theorems}.\n")?;
+    Ok(Text::new(b"Read: labelled ", line.into_bytes()))
+}

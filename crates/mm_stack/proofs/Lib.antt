@@ -1,0 +1,6 @@
+pub mod Cuts
+pub mod Turns
+pub mod Instances
+pub mod Assertions
+pub mod RunLemmas
+pub mod Spelling

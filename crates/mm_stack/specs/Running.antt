@@ -1,0 +1,114 @@
+-- The run of a proof: a fold over its steps, from the empty stack (Metamath book, section 4.1.4). A stack is the list of
+-- its entries, the oldest first; an entry is a list of symbols by number.
+use Rattle.std.specs.Prelude.{ℕ, ◌+◌, ◌-◌, Bool, true, false, not, ◌||◌, ◌==◌, nat_lt, List, [], ◌∷◌, ◌++◌, length, take, drop, slice_index, Result, Ok, Err, if◌then◌else◌}
+use Rattle.std.specs.List.{list_all}
+use Rattle.std.specs.Str.{bytes_eq}
+use Rattle.mm_scope.specs.Stated.{Stated}
+use Rattle.mm_scope.specs.Contents.{stated_at}
+use Rattle.mm_scope.specs.declared.statement.Kind.{Kind}
+use Rattle.mm_scope.specs.declared.statement.Kind.TheVariants as kind
+use Rattle.mm_stack.specs.Substitution.{Binding, value_of, instance}
+use Rattle.mm_stack.specs.declared.outcome.Fault.{Fault}
+use Rattle.mm_stack.specs.declared.outcome.Fault.TheVariants.{Underflow, FloatMismatch, EssentialMismatch, TooLong}
+use Rattle.mm_stack.specs.declared.outcome.Outcome.{Outcome}
+use Rattle.mm_stack.specs.declared.outcome.Outcome.TheVariants.{Incomplete, Faulty}
+use Rattle.mm_stack.specs.declared.step.Step.{Step}
+use Rattle.mm_stack.specs.declared.step.Step.TheVariants.{Hyp, Apply, Unknown}
+
+-- the longest entry, in symbols
+abbrev pub most_symbols : ℕ
+most_symbols = 32768
+
+abbrev pub is_float : Kind → Bool
+is_float kind.Float = true
+is_float kind.Essential = false
+is_float kind.Axiom = false
+is_float kind.Theorem = false
+
+-- a mandatory hypothesis of an assertion, and the entry that stands for it
+pub record Argument : Type 0 where
+  pub hypothesis : Stated
+  pub entry : List ℕ
+
+-- the mandatory hypotheses with these ids, each with its entry
+abbrev pub arguments : List ℕ → List ℕ → List (List ℕ) → List Argument
+arguments bytes [] es = []
+arguments bytes (m ∷ ms) [] = []
+arguments bytes (m ∷ ms) (e ∷ es) = record { hypothesis = stated_at bytes m; entry = e } ∷ arguments bytes ms es
+
+abbrev pub begins_with : ℕ → List ℕ → Bool
+begins_with s [] = false
+begins_with s (t ∷ ts) = t == s
+
+-- the entry of a `$f` has its typecode
+abbrev pub has_typecode : Argument → Bool
+has_typecode a = not (is_float a.hypothesis.kind) || begins_with (slice_index a.hypothesis.symbols 0) a.entry
+
+-- with the value of the variable, where the hypothesis is a `$f`: its entry without the typecode
+abbrev pub bind : Argument → List Binding → List Binding
+bind a sigma =
+    if is_float a.hypothesis.kind then record { variable = slice_index a.hypothesis.symbols 1; value = drop 1 a.entry } ∷ sigma
+    else sigma
+
+-- the substitution that the `$f` hypotheses fix
+abbrev pub substitution_of : List Argument → List Binding
+substitution_of [] = []
+substitution_of (a ∷ rest) = bind a (substitution_of rest)
+
+-- the entry of a `$e` is its instance, where symbols stand for these values
+abbrev pub is_instance : (ℕ → List ℕ) → Argument → Bool
+is_instance value a = is_float a.hypothesis.kind || bytes_eq (instance value a.hypothesis.symbols) a.entry
+
+-- the fault of the first check that holds, if one does
+abbrev pub unless : {A : Type 0} → List (Bool × Fault) → Result A Outcome → Result A Outcome
+unless [] r = r
+unless (c ∷ cs) r = if c.0 then Err (Faulty c.1) else unless cs r
+
+-- goes on unless the run has ended
+abbrev pub after : {A B : Type 0} → Result A Outcome → (A → Result B Outcome) → Result B Outcome
+after (Ok x) f = f x
+after (Err o) f = Err o
+
+-- how many entries an assertion leaves
+abbrev pub kept : Stated → List (List ℕ) → ℕ
+kept a stack = length stack - length a.mandatory
+
+-- the mandatory hypotheses of an assertion, each with the entry that it pops
+abbrev pub popped : List ℕ → Stated → List (List ℕ) → List Argument
+popped bytes a stack = arguments bytes a.mandatory (drop (kept a stack) stack)
+
+-- what stands for each symbol at an assertion
+abbrev pub values_at : List ℕ → Stated → List (List ℕ) → ℕ → List ℕ
+values_at bytes a stack = value_of (substitution_of (popped bytes a stack))
+
+-- the entry that an assertion pushes: the instance of its symbols
+abbrev pub conclusion_at : List ℕ → Stated → List (List ℕ) → List ℕ
+conclusion_at bytes a stack = instance (values_at bytes a stack) a.symbols
+
+-- the faults of an assertion as step k, in the order in which they are tried
+abbrev pub checks : List ℕ → Stated → List (List ℕ) → ℕ → List (Bool × Fault)
+checks bytes a stack k =
+    (nat_lt (length stack) (length a.mandatory), Underflow k)
+    ∷ (not (list_all has_typecode (popped bytes a stack)), FloatMismatch k)
+    ∷ (not (list_all (is_instance (values_at bytes a stack)) (popped bytes a stack)), EssentialMismatch k)
+    ∷ (nat_lt most_symbols (length (conclusion_at bytes a stack)), TooLong k)
+    ∷ []
+
+-- an assertion as step k
+unfoldable pub applied : List ℕ → Stated → List (List ℕ) → ℕ → Result (List (List ℕ)) Outcome
+applied bytes a stack k = unless (checks bytes a stack k) (Ok (take (kept a stack) stack ++ conclusion_at bytes a stack ∷ []))
+
+-- the stack after step k
+abbrev pub run_step : List ℕ → List (List ℕ) → ℕ → Step → Result (List (List ℕ)) Outcome
+run_step bytes stack k (Hyp id) = Ok (stack ++ (stated_at bytes id.0).symbols ∷ [])
+run_step bytes stack k (Apply id) = applied bytes (stated_at bytes id.0) stack k
+run_step bytes stack k Unknown = Err Incomplete
+
+-- the stack after these steps, of which the first is step k, or what ends the run before
+unfoldable pub run_from : List ℕ → List (List ℕ) → ℕ → List Step → Result (List (List ℕ)) Outcome
+run_from bytes stack k [] = Ok stack
+run_from bytes stack k (s ∷ ss) = after (run_step bytes stack k s) (λ next. run_from bytes next (k + 1) ss)
+
+-- the stack at the end of a proof, or what ends its run before
+abbrev pub run : List ℕ → List Step → Result (List (List ℕ)) Outcome
+run bytes steps = run_from bytes [] 1 steps

@@ -1,0 +1,20 @@
+//! The proof machine: which proofs of a Metamath database are accepted.
+//!
+//! A proof is a list of steps. A hypothesis pushes its statement. An assertion pops an entry for each of its mandatory
+//! hypotheses, and pushes its conclusion under the substitution that makes the hypotheses those entries
+//! (Metamath book, section 4.3).
+#![tactic(auto)]
+
+mod accept;
+mod decode;
+mod instance;
+mod machine;
+mod outcome;
+mod stack;
+mod step;
+#[cfg(test)]
+mod tests;
+mod values;
+
+pub use accept::verify;
+pub use outcome::Verdict;

@@ -1,0 +1,199 @@
+//! The proof machine: the run of a proof's steps.
+
+ghost use Rattle.std.specs.Prelude.{◌≡◌, ◌≤◌, ◌<◌, ◌+◌, ◌-◌, ◌^◌, true, List, [], length, drop, All, IfOk, Ok, Err, slice_index_or};
+ghost use Rattle.std.specs.List.{list_all};
+ghost use Rattle.mm_scope.specs.Contents.{labels_of, stated_at};
+ghost use Rattle.mm_stack.specs.Seats.{value_in};
+ghost use Rattle.mm_stack.specs.Substitution.{Binding};
+ghost use Rattle.mm_stack.specs.Running.{arguments, has_typecode, bind, substitution_of, is_instance, applied, run_step, run_from, run};
+ghost use Rattle.mm_stack.specs.Machines.{Means, IsOwn, GivesStack};
+ghost use Rattle.mm_stack.specs.declared.machine.Stop.TheVariants.{Memory};
+
+use crate::instance::{fill, is_instance};
+use crate::outcome::{Fault, Outcome};
+use crate::stack::Stack;
+use crate::step::Step;
+use crate::values::Values;
+use mm_scope::{Database, Kind, StmtId};
+use std::alloc::{AllocError, Global};
+
+/// Why a run stops before its end.
+#[derive(Clone, Copy, Debug, PartialEq, Eq)]
+pub enum Stop {
+    Ended(Outcome),
+    Memory,
+}
+
+impl From<AllocError> for Stop {
+    ghost from_gives = { λ _ stop. stop ≡ Memory };
+
+    fn from(_e: AllocError) -> Stop {
+        Stop::Memory
+    }
+}
+
+/// The stack, and what serves each assertion anew: the table of values, and the entry that it pushes.
+#[derive(Drop)]
+pub struct Machine {
+    pub stack: Stack,
+    values: Values,
+    pushed: Vec<u32>,
+}
+
+fn faulty(fault: Fault) -> Stop
+    ensures { result ≡ Stop.Ended (Outcome.Faulty fault) }
+{
+    Stop::Ended(Outcome::Faulty(fault))
+}
+
+/// Lets the entry of a stack give its value to the variable of a `$f`; `false` exactly where the typecode differs.
+/// Another hypothesis changes nothing.
+fn bind(
+    values: &mut Values,
+    stack: &Stack,
+    db: &Database,
+    hypothesis: StmtId,
+    number: usize,
+) -> Result<bool, AllocError>
+    requires { hypothesis.0 < length (labels_of db.now) }
+    ensures fits { IfOk result (λ fits. fits ≡ has_typecode (record { hypothesis = stated_at db.now hypothesis.0; entry = slice_index_or stack.now number [] })) }
+    ensures means { IfOk result (λ fits. fits ≡ true → (sigma : List Binding) → Means values.old stack.now sigma → Means values.new stack.now (bind (record { hypothesis = stated_at db.now hypothesis.0; entry = slice_index_or stack.now number [] }) sigma)) }
+{
+    match db.kind(hypothesis) {
+        Kind::Float => {
+            let symbols = db.frame(hypothesis).conclusion.as_slice();
+            match stack.entry(number) {
+                [typecode, ..] if *typecode == symbols[0] => {
+                    values.set(symbols[1], number)?;
+                    Ok(true)
+                }
+                _ => Ok(false),
+            }
+        }
+        Kind::Essential | Kind::Axiom | Kind::Theorem => Ok(true),
+    }
+}
+
+/// Lets the newest entries give their values to the variables of the mandatory `$f`; `false` exactly where a typecode
+/// differs.
+fn bind_all(
+    values: &mut Values,
+    stack: &Stack,
+    db: &Database,
+    mandatory: &[u32],
+) -> Result<bool, AllocError>
+    requires own { All (λ m. m < length (labels_of db.now)) mandatory.now }
+    requires room { length mandatory.now ≤ length stack.now }
+    ensures fits { IfOk result (λ fits. fits ≡ list_all has_typecode (arguments db.now mandatory.now (drop (length stack.now - length mandatory.now) stack.now))) }
+    ensures means { IfOk result (λ fits. fits ≡ true → Means values.new stack.now (substitution_of (arguments db.now mandatory.now (drop (length stack.now - length mandatory.now) stack.now)))) }
+{
+    values.clear();
+    let mut number = stack.count();
+    let mut left = mandatory.len();
+    while left > 0 {
+        left -= 1;
+        number -= 1;
+        if !bind(values, stack, db, StmtId(mandatory[left]), number)? {
+            return Ok(false);
+        }
+    }
+    Ok(true)
+}
+
+/// Whether the entry of a stack is the instance of a `$e`. Another hypothesis agrees with each entry.
+fn agrees(values: &Values, stack: &Stack, db: &Database, hypothesis: StmtId, number: usize) -> bool
+    requires { hypothesis.0 < length (labels_of db.now) }
+    ensures { result ≡ is_instance (value_in values.now stack.now) (record { hypothesis = stated_at db.now hypothesis.0; entry = slice_index_or stack.now number [] }) }
+{
+    match db.kind(hypothesis) {
+        Kind::Float => true,
+        Kind::Essential | Kind::Axiom | Kind::Theorem => {
+            let symbols = db.frame(hypothesis).conclusion.as_slice();
+            is_instance(values, stack, symbols, stack.entry(number))
+        }
+    }
+}
+
+/// Whether the newest entries are the instances of the mandatory `$e`.
+fn all_agree(values: &Values, stack: &Stack, db: &Database, mandatory: &[u32]) -> bool
+    requires own { All (λ m. m < length (labels_of db.now)) mandatory.now }
+    requires room { length mandatory.now ≤ length stack.now }
+    ensures { result ≡ list_all (is_instance (value_in values.now stack.now)) (arguments db.now mandatory.now (drop (length stack.now - length mandatory.now) stack.now)) }
+{
+    let mut number = stack.count();
+    let mut left = mandatory.len();
+    while left > 0 {
+        left -= 1;
+        number -= 1;
+        if !agrees(values, stack, db, StmtId(mandatory[left]), number) {
+            return false;
+        }
+    }
+    true
+}
+
+impl Machine {
+    /// A machine with an empty stack. It takes no memory.
+    pub fn new(alloc: Global) -> Machine
+        ensures { result.stack ≡ [] }
+    {
+        Machine {
+            stack: Stack::new(alloc),
+            values: Values::new(alloc),
+            pushed: Vec::new(alloc),
+        }
+    }
+
+    /// Runs an assertion as the step with this number.
+    fn apply(&mut self, db: &Database, id: StmtId, number: u64) -> Result<(), Stop>
+        requires { id.0 < length (labels_of db.now) }
+        ensures { GivesStack self.new.stack result (applied db.now (stated_at db.now id.0) self.old.stack number) }
+    {
+        let frame = db.frame(id);
+        let mandatory = frame.mandatory.as_slice();
+        let count = self.stack.count();
+        if count < mandatory.len() {
+            return Err(faulty(Fault::Underflow(number)));
+        }
+        if !bind_all(&mut self.values, &self.stack, db, mandatory)? {
+            return Err(faulty(Fault::FloatMismatch(number)));
+        }
+        if !all_agree(&self.values, &self.stack, db, mandatory) {
+            return Err(faulty(Fault::EssentialMismatch(number)));
+        }
+        let symbols = frame.conclusion.as_slice();
+        if !fill(&self.values, &self.stack, symbols, &mut self.pushed)? {
+            return Err(faulty(Fault::TooLong(number)));
+        }
+        self.stack.truncate(count - mandatory.len());
+        self.stack.push(self.pushed.as_slice())?;
+        Ok(())
+    }
+
+    /// Runs the step with this number.
+    fn step(&mut self, db: &Database, step: Step, number: u64) -> Result<(), Stop>
+        requires { IsOwn db.now step }
+        ensures { GivesStack self.new.stack result (run_step db.now self.old.stack number step) }
+    {
+        match step {
+            Step::Hyp(id) => {
+                self.stack.push(db.frame(id).conclusion.as_slice())?;
+                Ok(())
+            }
+            Step::Apply(id) => self.apply(db, id, number),
+            Step::Unknown => Err(Stop::Ended(Outcome::Incomplete)),
+        }
+    }
+
+    /// Runs the steps from an empty stack.
+    pub fn run(&mut self, db: &Database, steps: &[Step]) -> Result<(), Stop>
+        requires own { All (IsOwn db.now) steps.now }
+        requires empty { self.old.stack ≡ [] }
+        ensures { GivesStack self.new.stack result (run db.now steps.now) }
+    {
+        for (index, step) in steps.iter().enumerate() {
+            self.step(db, *step, index as u64 + 1)?;
+        }
+        Ok(())
+    }
+}

@@ -1,0 +1,61 @@
+//! The program `mmpa`: a session over real files and the real screen.
+#![tactic(auto)]
+
+mod arguments;
+mod files;
+mod screen;
+#[cfg(test)]
+mod tests;
+
+use arguments::{Arguments, read_arguments};
+use files::RealFiles;
+use mm_session::run_session;
+use screen::Screen;
+use std::process::ExitCode;
+
+const USAGE: &str = "\
+usage: mmpa [COMMAND ..]
+       mmpa --help | --version
+
+Each COMMAND is one word of the command line, as in
+    mmpa \"READ demo0.mm\" \"VERIFY PROOF th1\"
+
+READ FILE            reads a database
+VERIFY PROOF LABEL   verifies one proof
+
+The status is 0 where all went well, 1 where a command was refused, 4 where the
+screen failed, 5 where memory ran out and 6 where files failed too often.
+";
+
+const VERSION: &str = "mmpa 0.1.0\n";
+
+/// The status where memory runs out before the session.
+const OUT_OF_MEMORY: u8 = 5;
+
+/// The status where the screen fails.
+const SCREEN_FAILED: u8 = 4;
+
+fn main(rt: HostRuntime) -> ExitCode {
+    match read_arguments(&rt) {
+        Arguments::Help => show(&rt, USAGE),
+        Arguments::Version => show(&rt, VERSION),
+        Arguments::Unread => {
+            let _ = rt.eprintln("mmpa: the arguments can't be read");
+            ExitCode::from(OUT_OF_MEMORY)
+        }
+        Arguments::Words(words) => {
+            let mut files = RealFiles::new(&rt);
+            let mut screen = Screen::new(&rt);
+            let end = run_session(rt.alloc(), &words, &mut files, &mut screen);
+            ExitCode::from(end.status)
+        }
+    }
+}
+
+/// Writes a fixed text.
+fn show(rt: &impl Print, text: &str) -> ExitCode {
+    match rt.print(text) {
+        Ok(()) => ExitCode::SUCCESS,
+        Err(_) => ExitCode::from(SCREEN_FAILED),
+    }
+}
