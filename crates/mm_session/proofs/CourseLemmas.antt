@@ -1,5 +1,5 @@
 -- The lists of the commands that gave up.
-use Rattle.std.proofs.Common.{◌≡◌, ◌≢◌, ◌==◌, ◌||◌, ◌<◌, ◌≤◌, ℕ, zero, suc, Bool, true, false, List, [], ◌∷◌, ◌++◌, length, refl, sym, ◌∙◌, ap, subst, arith, length-append}
+use Rattle.std.proofs.Common.{◌≡◌, ◌≢◌, ◌==◌, ◌||◌, ◌<◌, ◌≤◌, ℕ, suc, Bool, true, false, List, [], ◌∷◌, ◌++◌, length, refl, sym, ◌∙◌, ap, subst, arith, length-append}
 use Rattle.std.proofs.lemmas.List.Folds.{list_any-append}
 use Rattle.std.proofs.lemmas.Bool.Decides.{nat_tests}
 use Rattle.mm_base.specs.Outside.{CountsFaults, RoseBy}
@@ -109,6 +109,11 @@ pub rose_after : (r : Reply) (F : List ℕ) (n a b c : ℕ) → RoseBy (length F
 rose_after (reply.Done text refused) F n a b c rose counts = let e : c ≡ b = counts.stays refl in omega arith
 rose_after reply.Starved F n a b c rose counts = let e : c ≡ b = counts.stays refl in omega arith
 rose_after reply.Faulted F n a b c rose counts = let e : RoseBy 1 b c = counts.rose refl in omega (arith, length-append F (n ∷ []))
+
+pub held_after : (r : Reply) (F : List ℕ) (n a b c : ℕ) → (F ≡ [] → b ≡ a) → CountsFaults (is_faulted r) b c → faulted_after (outcome r) F n ≡ [] → c ≡ a
+held_after (reply.Done text refused) F n a b c held counts e = counts.stays refl ∙ held e
+held_after reply.Starved F n a b c held counts e = counts.stays refl ∙ held e
+held_after reply.Faulted F n a b c held counts e = let l : length (F ++ n ∷ []) ≡ 0 = ap length e in absurd (omega (arith, length-append F (n ∷ []), l))
 
 -- where none has starved by then, this command hasn't, and none before it
 pub not_starved : (o : Outcome) (S : List ℕ) (n : ℕ) → starved_after o S n ≡ [] → o ≢ Starved

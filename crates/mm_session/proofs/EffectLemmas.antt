@@ -1,5 +1,5 @@
 -- What commands do, and what they leave alone.
-use Rattle.std.proofs.Common.{◌≡◌, ◌≢◌, ◌⊎◌, ◌+◌, ◌<◌, ◌≤◌, ℕ, Bool, true, false, IsTrue, List, [], length, take, Option, Some, None, Result, Ok, Err, IfOk, refl, sym, ◌∙◌, ap, subst, arith, nat_lt, min, inl, inr, if◌then◌else◌}
+use Rattle.std.proofs.Common.{◌≡◌, ◌≢◌, ◌⊎◌, ◌<◌, ◌≤◌, ℕ, Bool, true, false, IsTrue, List, [], length, Option, Some, None, Result, Ok, Err, IfOk, refl, sym, ◌∙◌, ap, subst, arith, nat_lt, inl, inr}
 use Rattle.std.specs.declared.alloc.AllocError.{AllocError}
 use Rattle.std.proofs.lemmas.List.{take_all}
 use Rattle.std.proofs.lemmas.Bool.{cases_lt}
@@ -19,7 +19,7 @@ use Rattle.mm_session.specs.declared.reply.Reply.TheVariants as reply
 use Rattle.mm_session.specs.Effect.{Effect, Outcome, Fine, Starved, Faulted, Meets, ended, outcome, is_faulted, with_puts, add_put, reply_of}
 use Rattle.mm_session.specs.Effects.{read_bytes, read_found, read_with, verify_proof, verify_kind, verify_found, verify_with}
 use Rattle.mm_session.specs.Texts.{no_file_text, read_text, not_built_text, already_read_text}
-use Rattle.mm_session.specs.Calls.{Fails, Calls}
+use Rattle.mm_session.specs.Calls.{Calls}
 use Rattle.mm_session.specs.Advance.{HasRun}
 use Rattle.mm_scope.proofs.ContentsLemmas.{is_built-length}
 

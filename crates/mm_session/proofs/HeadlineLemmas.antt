@@ -1,5 +1,5 @@
 -- What the screen holds at each end of a session.
-use Rattle.std.proofs.Common.{◌≡◌, ◌+◌, ◌<◌, ◌≤◌, if◌then◌else◌, ℕ, zero, suc, Bool, true, false, List, [], ◌∷◌, ◌++◌, length, refl, sym, ◌∙◌, ap, subst, arith, slice_index_or, append_assoc, nat_lt, Result, Ok, Err, OnOk, OnErr, is_err}
+use Rattle.std.proofs.Common.{◌≡◌, ◌+◌, ◌<◌, ◌≤◌, ℕ, zero, suc, Bool, true, false, List, [], ◌∷◌, ◌++◌, length, refl, sym, ◌∙◌, ap, subst, arith, slice_index_or, append_assoc, nat_lt, Result, Ok, Err, OnOk, OnErr, is_err}
 use Rattle.std.proofs.lemmas.Bool.{lt-ltb}
 use Rattle.std.proofs.lemmas.Bool.Decides.{nat_tests}
 use Rattle.mm_base.specs.declared.files.Files.{Ghosts as FilesOf}
@@ -10,11 +10,11 @@ use Rattle.mm_session.specs.declared.state.State.{State}
 use Rattle.mm_session.specs.declared.reply.Reply.{Reply}
 use Rattle.mm_session.specs.declared.run.Run.{Run}
 use Rattle.mm_session.specs.declared.session.SessionEnd.{SessionEnd}
-use Rattle.mm_session.specs.Effect.{text_of, with_puts}
+use Rattle.mm_session.specs.Effect.{text_of}
 use Rattle.mm_session.specs.Calls.{Counted}
-use Rattle.mm_session.specs.Session.{Script, Machine, Maps, maps_of, session, fresh, prompt, echo, has}
-use Rattle.mm_session.specs.Course.{Rise, Follows, script, script_of}
-use Rattle.mm_session.specs.Advance.{GoesOn, RunsOn}
+use Rattle.mm_session.specs.Session.{Script, Machine, Maps, maps_of, session, fresh, prompt, echo}
+use Rattle.mm_session.specs.Course.{Rise, Follows, script_of}
+use Rattle.mm_session.specs.Advance.{RunsOn}
 use Rattle.mm_session.specs.Headline.{IsSession, Reached, EndsWhole, EndsCut, GivesUp, script_by, starved_by, faulted_by, before_reply, next_text, end_status}
 
 pub err_gives : {T E : Type 0} {P : Type 0} (r : Result T E) (b : Bool) → b ≡ true → b ≡ is_err r → OnErr r P → P
@@ -78,6 +78,7 @@ module _ {F K : Type 0} (fs : FilesOf F) (sk : SinkOf K) where
     apart = follows.apart;
     causes = follows.causes;
     files_failed = follows.rose;
+    files_held = follows.held;
     faults_exactly = counted.exactly;
   }
 
@@ -200,6 +201,7 @@ module _ {F K : Type 0} (fs : FilesOf F) (sk : SinkOf K) where
           faulted = rise_none run.faulted.items faulted;
           apart = λ k h. rw faulted refl;
           rose = rw faulted (omega arith);
+          held = λ e. refl;
           causes = λ k lt. absurd (omega (arith, lt));
         });
         counted = subst (λ (k : ℕ). Counted fs s begun k begun) (sym lines) (record {

@@ -1,5 +1,5 @@
 -- What the answers of the session machine mean.
-use Rattle.std.proofs.Common.{◌≡◌, ◌≢◌, ℕ, zero, suc, Bool, true, false, List, [], ◌∷◌, Option, Some, None, refl, sym, ◌∙◌, ap, subst, arith, if◌then◌else◌}
+use Rattle.std.proofs.Common.{◌≡◌, ◌≢◌, ℕ, zero, suc, Bool, true, false, List, [], ◌∷◌, Option, Some, None, refl, sym, ◌∙◌, ap, subst, arith}
 use Rattle.mm_base.specs.Files.{Map}
 use Rattle.mm_scope.specs.Contents.{is_built, find_label, stated_at}
 use Rattle.mm_scope.proofs.ContentsLemmas.{is_built-is_read}
@@ -13,8 +13,8 @@ use Rattle.mm_session.specs.Effect.{Effect, Outcome, Fine, Starved, Faulted, end
 use Rattle.mm_session.specs.Command.{Meaning, Nothing, Read, Verify, NotBuilt, command_of}
 use Rattle.mm_session.specs.Effects.{command_effect, step_of, read_bytes, read_found, read_with, verify_proof, verify_kind, verify_found, verify_with}
 use Rattle.mm_session.specs.Texts.{not_built_text, already_read_text, no_file_text, read_text, no_database_text, no_statement_text, not_theorem_text, not_verified_text, accepted_text}
-use Rattle.mm_session.specs.Session.{Script, Turn, session, turn, effect_of}
-use Rattle.mm_session.specs.Laws.{IsAccepted, IsRead, SaysAccepted, AcceptedIsSaid, DatabaseIsBuilt, ReadIsWhole}
+use Rattle.mm_session.specs.Session.{session, turn, effect_of}
+use Rattle.mm_session.specs.Laws.{SaysAccepted, AcceptedIsSaid, DatabaseIsBuilt, ReadIsWhole}
 
 first : List ℕ → ℕ
 first [] = 0

@@ -1,5 +1,5 @@
 -- A session goes on as the machine does.
-use Rattle.std.proofs.Common.{◌≡◌, ◌≢◌, ◌==◌, ◌||◌, ◌+◌, ◌<◌, ◌≤◌, ◌↔◌, ℕ, zero, suc, Bool, true, false, IsTrue, List, [], ◌∷◌, ◌++◌, length, refl, sym, ◌∙◌, ap, subst, arith, slice_index_or, min, Option, Some, None, inl, inr, if◌then◌else◌}
+use Rattle.std.proofs.Common.{◌≡◌, ◌≢◌, ◌==◌, ◌||◌, ◌+◌, ◌<◌, ◌≤◌, ℕ, zero, suc, Bool, true, false, IsTrue, List, [], ◌++◌, refl, sym, ◌∙◌, ap, subst, arith, slice_index_or, min, Option, Some, None, inl, inr, if◌then◌else◌}
 use Rattle.std.proofs.lemmas.Bool.{cases_lt}
 use Rattle.std.proofs.lemmas.Bool.Decides.{nat_tests}
 use Rattle.mm_base.specs.declared.files.Files.{Ghosts as FilesOf}
@@ -8,13 +8,13 @@ use Rattle.mm_base.specs.Outside.{CountsFaults}
 use Rattle.mm_session.specs.declared.state.State.{State}
 use Rattle.mm_session.specs.declared.reply.Reply.{Reply}
 use Rattle.mm_session.specs.declared.run.Run.{Run}
-use Rattle.mm_session.specs.Effect.{Effect, Outcome, Fine, Starved, Faulted, outcome, ended, is_faulted, is_refused, text_of, with_puts, add_put}
+use Rattle.mm_session.specs.Effect.{Effect, Outcome, Fine, Starved, Faulted, outcome, ended, is_faulted, is_refused, with_puts, add_put}
 use Rattle.mm_session.specs.Effects.{step_of}
 use Rattle.mm_session.specs.Session.{Script, Machine, Turn, Maps, session, turn, turn_in, after, outcome_of, effect_of, prompt, echo}
 use Rattle.mm_session.specs.Course.{Follows, script, script_of}
-use Rattle.mm_session.specs.Calls.{Fails, Calls, HasCause, CallFails, FaultsExactly, Counted}
+use Rattle.mm_session.specs.Calls.{Fails, HasCause, FaultsExactly, Counted}
 use Rattle.mm_session.specs.Advance.{HasRun, GoesOn, RunsOn}
-use Rattle.mm_session.proofs.CourseLemmas.{starved_after, faulted_after, outcome_now, outcome_before, rise_starved, rise_faulted, apart_after, rose_after, not_starved, was_none}
+use Rattle.mm_session.proofs.CourseLemmas.{starved_after, faulted_after, outcome_now, outcome_before, rise_starved, rise_faulted, apart_after, rose_after, held_after, not_starved, was_none}
 
 pub session_suc : (s : Script) (n : ℕ) → session s (suc n) ≡ after (turn s n)
 unfolding session
@@ -145,6 +145,7 @@ module _ {F : Type 0} (fs : FilesOf F) (s : Script) (begun : F) (n : ℕ) (state
         faulted = rise_faulted o s.faulted n t.follows.faulted;
         apart = apart_after o s.starved s.faulted n t.follows.starved t.follows.faulted t.follows.apart;
         rose = rose_after r s.faulted (suc n) (fs.faults begun) (fs.faults before) (fs.faults now) t.follows.rose t.counts;
+        held = held_after r s.faulted (suc n) (fs.faults begun) (fs.faults before) (fs.faults now) t.follows.held t.counts;
         causes = each_turn HasCause t.follows.causes (record { memory = meets.starved; files = meets.faulted });
       }
 

@@ -35,4 +35,5 @@ pub record Follows {F : Type 0} (fs : FilesOf F) (s : Script) (begun : F) (n : �
   pub faulted : Rise 0 n s.faulted
   pub apart : AreApart s.starved s.faulted
   pub rose : RoseBy (length s.faulted) (fs.faults begun) (fs.faults files)
+  pub held : s.faulted ≡ [] → fs.faults files ≡ fs.faults begun
   pub causes : (k : ℕ) → k < n → HasCause (turn s k)

@@ -1,5 +1,5 @@
 -- What holds of a session that has ended.
-use Rattle.std.specs.Prelude.{◌≡◌, ◌<◌, ◌≤◌, ◌==◌, ℕ, zero, suc, nat_lt, if◌then◌else◌, Bool, true, false, IsTrue, List, [], ◌∷◌, ◌++◌, length, slice_index_or}
+use Rattle.std.specs.Prelude.{◌≡◌, ◌<◌, ◌≤◌, ◌==◌, ℕ, zero, suc, nat_lt, if◌then◌else◌, Bool, IsTrue, List, [], ◌∷◌, ◌++◌, length, slice_index_or}
 use Rattle.mm_base.specs.declared.files.Files.{Ghosts as FilesOf}
 use Rattle.mm_base.specs.declared.sink.Sink.{Ghosts as SinkOf}
 use Rattle.mm_base.specs.Outside.{RoseBy}
@@ -69,6 +69,7 @@ pub record IsSession {F K : Type 0} (fs : FilesOf F) (sk : SinkOf K) (commands :
   -- why commands gave up; and exactly why they met file faults, where none starved
   pub causes : (k : ℕ) → k < end.lines → HasCause (turn (script_by commands maps end) k)
   pub files_failed : RoseBy (length (faulted_by end)) (fs.faults begun) (fs.faults files)
+  pub files_held : faulted_by end ≡ [] → fs.faults files ≡ fs.faults begun
   pub faults_exactly : IsTrue (fs.tells_failing files) → starved_by end ≡ [] → (k : ℕ) → k < end.lines → FaultsExactly fs begun (turn (script_by commands maps end) k)
 
 -- The first n commands have been run, and their transcript is on the screen.

@@ -18,7 +18,8 @@ pub enum Command<'a> {
     NotBuilt,
 }
 
-const MAX_LINE: usize = 65_536;
+/// How many bytes a line may have.
+pub const MAX_LINE: usize = 65_536;
 
 /// Reads a line.
 #[tactic(auto, unfolding(crate::specs::Command::command_of))]
@@ -81,8 +82,8 @@ fn has_pattern_byte(word: &[u8]) -> bool
     word.iter().any(|b| *b == b'*' || *b == b'?' || *b == b',')
 }
 
-#[tactic(auto, unfolding(crate::specs::Command::word_of, crate::specs::Command::rest_of))]
 // The first word, and what stands behind it.
+#[tactic(auto, unfolding(crate::specs::Command::word_of, crate::specs::Command::rest_of))]
 fn split_word(line: &[u8]) -> (&[u8], &[u8])
     ensures word { result.0.now ≡ word_of line.now }
     ensures rest { result.1.now ≡ rest_of line.now }

@@ -4,11 +4,10 @@ ghost use Rattle.mm_base.specs.Sink.{Gains, GainsPart};
 ghost use Rattle.mm_session.specs.Effect.{text_of};
 ghost use Rattle.mm_session.specs.Session.{prompt, echo, shown};
 
+use crate::command::MAX_LINE;
 use crate::reply::Reply;
 use crate::state::State;
 use mm_base::{Failed, Sink, write_all};
-
-const MAX_LINE: usize = 65_536;
 
 fn prompt(_state: &State) -> &'static [u8]
     ensures { result.now ≡ prompt _state.now }

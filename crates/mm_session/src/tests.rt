@@ -1,5 +1,5 @@
 use crate::{Word, run_session};
-use mm_base::{MemFiles, MemSink, Memory};
+use mm_base::{MemFiles, MemSink, Memory, is_name};
 use std::alloc::Global;
 use std::test::Fail;
 
@@ -62,7 +62,9 @@ fn lines_that_ask_for_nothing_or_are_not_built(rt: HostRuntime) -> Result<(), Fa
 fn an_empty_file_is_read(rt: HostRuntime) -> Result<(), Fail> {
     let alloc = rt.alloc();
     let mut files = MemFiles::new(alloc, &[])?;
-    files.add(alloc, b"empty.mm", b"")?;
+    let name = b"empty.mm".as_slice();
+    assert!(rt; is_name(name));
+    files.add(alloc, name, b"")?;
     let mut screen = MemSink::new(alloc, 1000, &[])?;
     let words = words(
         alloc,
@@ -81,11 +83,10 @@ fn an_empty_file_is_read(rt: HostRuntime) -> Result<(), Fail> {
 fn proofs_are_verified(rt: HostRuntime) -> Result<(), Fail> {
     let alloc = rt.alloc();
     let mut files = MemFiles::new(alloc, &[])?;
-    files.add(
-        alloc,
-        b"a.mm",
-        b"$c a $. x $a a $. p $p a $= x $. q $p a $= x x $.",
-    )?;
+    let name = b"a.mm".as_slice();
+    assert!(rt; is_name(name));
+    let bytes = b"$c a $. x $a a $. p $p a $= x $. q $p a $= x x $.";
+    files.add(alloc, name, bytes)?;
     let mut screen = MemSink::new(alloc, 1000, &[])?;
     let words = words(
         alloc,

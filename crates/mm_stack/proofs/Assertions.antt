@@ -7,8 +7,8 @@ use Rattle.std.proofs.lemmas.List.Folds.{list_all_at}
 use Rattle.mm_scope.specs.Stated.{Stated}
 use Rattle.mm_scope.specs.Contents.{stated_at}
 use Rattle.mm_stack.specs.Substitution.{value_of, instance}
-use Rattle.mm_stack.specs.Running.{substitution_of, Argument, arguments, has_typecode, is_instance, applied, popped, values_at, kept, conclusion_at, unless, checks, most_symbols}
-use Rattle.mm_stack.specs.declared.outcome.Fault.TheVariants.{Underflow, FloatMismatch, EssentialMismatch, TooLong}
+use Rattle.mm_stack.specs.Running.{substitution_of, Argument, arguments, has_typecode, is_instance, applied, popped, values_at, kept, conclusion_at, most_symbols}
+use Rattle.mm_stack.specs.declared.outcome.StackFault.TheVariants.{Underflow, FloatMismatch, EssentialMismatch, TooLong}
 use Rattle.mm_stack.specs.declared.outcome.Outcome.TheVariants.{Faulty}
 
 length_arguments : (bytes ms : List ℕ) (es : List (List ℕ)) → length ms ≡ length es → length (arguments bytes ms es) ≡ length ms

@@ -1,8 +1,8 @@
 -- Entries in one buffer.
-use Rattle.std.proofs.Common.{◌≡◌, ◌≤◌, ◌<◌, ◌+◌, ◌-◌, ℕ, zero, suc, List, [], ◌∷◌, ◌++◌, length, take, drop, get_or, refl, ap, sym, ◌∙◌, arith, length-append, length-drop}
+use Rattle.std.proofs.Common.{◌≡◌, ◌≤◌, ◌<◌, ◌+◌, ◌-◌, ℕ, zero, suc, List, [], ◌∷◌, ◌++◌, length, take, drop, get_or, refl, ap, sym, ◌∙◌, arith}
 use Rattle.std.specs.Prelude.{slice_range}
 use Rattle.std.proofs.lemmas.Slice.{between_is}
-use Rattle.std.proofs.lemmas.List.{take-take, take-append-le, take_at, drop_at, take_all, length-take-le}
+use Rattle.std.proofs.lemmas.List.{take-take, take_at, drop_at, take_all, length-take-le}
 use Rattle.mm_stack.specs.Entries.{entries_from, top_from, IsCut}
 
 pub length_entries : (ss : List ℕ) (from : ℕ) (ends : List ℕ) → length (entries_from ss from ends) ≡ length ends

@@ -4,3 +4,4 @@ pub mod Instances
 pub mod Assertions
 pub mod RunLemmas
 pub mod Spelling
+pub mod Substituting

@@ -1,5 +1,5 @@
 -- A run, step by step.
-use Rattle.std.proofs.Common.{◌≡◌, ◌<◌, ◌≤◌, ◌+◌, ℕ, List, [], ◌∷◌, length, drop, get_or, Ok, Err, ap, sym, ◌∙◌, refl, Result}
+use Rattle.std.proofs.Common.{◌≡◌, ◌<◌, ◌≤◌, ◌+◌, ℕ, List, length, drop, get_or, Ok, ap, ◌∙◌, Result}
 use Rattle.std.proofs.lemmas.List.{drop_more, drop_all}
 use Rattle.mm_stack.specs.Running.{run_from, run_step, after}
 use Rattle.mm_stack.specs.Machines.{Stops}

@@ -1,5 +1,5 @@
 -- The steps of a proof, token by token.
-use Rattle.std.proofs.Common.{◌≡◌, ◌+◌, ℕ, List, [], ◌∷◌, ◌++◌, Ok, Err, Result, slice_range, ap, sym, ◌∙◌, refl}
+use Rattle.std.proofs.Common.{◌≡◌, ◌+◌, ℕ, List, [], ◌∷◌, ◌++◌, Ok, Err, Result, slice_range, ap, sym, refl}
 use Rattle.std.proofs.lemmas.List.{append_assoc, append-nil}
 use Rattle.mm_tokens.specs.declared.pieces.Token.{Token}
 use Rattle.mm_stack.specs.Decoding.{step_of, steps_from, after}

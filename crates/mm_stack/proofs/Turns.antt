@@ -1,8 +1,8 @@
 -- Seats by turn.
-use Rattle.std.proofs.Common.{◌≡◌, ◌≤◌, ◌<◌, ◌-◌, ◌==◌, ℕ, zero, suc, List, [], ◌∷◌, ◌++◌, Option, None, Some, length, take, get_or, map, if◌then◌else◌, refl, ap, sym, ◌∙◌, arith, set, All, replicate, true, false, eq-eqb, eqb, ◌⊎◌, ◌≢◌, inl, inr}
+use Rattle.std.proofs.Common.{◌≡◌, ◌<◌, ◌==◌, ℕ, zero, suc, List, [], ◌∷◌, ◌++◌, None, Some, length, get_or, map, if◌then◌else◌, refl, ap, ◌∙◌, arith, set, All, replicate, true, false, eq-eqb, eqb, ◌⊎◌, ◌≢◌, inl, inr}
 use Rattle.std.proofs.lemmas.Bool.Decides.{eqb_tells}
 use Rattle.std.proofs.lemmas.Bool.{ne_eqb}
-use Rattle.std.proofs.lemmas.List.{map-append, get_or_past, get_or_append_left, get_or-append_right, map-set, get_or-set_same, get_or-set_other, length-map, get_or-map}
+use Rattle.std.proofs.lemmas.List.{map-set, get_or-set_same, get_or-set_other, length-map}
 use Rattle.std.proofs.lemmas.List.Elements.{All-head, All-tail}
 use Rattle.mm_stack.specs.Seats.{seated_in}
 use Rattle.mm_stack.specs.declared.values.Seat.{Seat}

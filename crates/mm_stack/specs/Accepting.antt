@@ -1,12 +1,12 @@
 -- What comes of a theorem's proof, and which theorems are accepted.
-use Rattle.std.specs.Prelude.{◌≡◌, ℕ, true, List, [], ◌∷◌, Option, Some, Result, Ok, Err, length, if◌then◌else◌}
+use Rattle.std.specs.Prelude.{◌≡◌, ℕ, true, List, [], ◌∷◌, Some, Result, Ok, Err, length, if◌then◌else◌}
 use Rattle.std.specs.Str.{bytes_eq}
 use Rattle.mm_scope.specs.Contents.{is_read, stated_at, find_label}
 use Rattle.mm_scope.specs.declared.statement.Kind.TheVariants.{Theorem}
 use Rattle.mm_stack.specs.Decoding.{decoded}
 use Rattle.mm_stack.specs.Running.{run}
 use Rattle.mm_stack.specs.declared.outcome.ProofFault.{ProofFault}
-use Rattle.mm_stack.specs.declared.outcome.Fault.TheVariants.{Proof, LeftOver, WrongResult}
+use Rattle.mm_stack.specs.declared.outcome.StackFault.TheVariants.{Proof, LeftOver, WrongResult}
 use Rattle.mm_stack.specs.declared.outcome.Outcome.{Outcome}
 use Rattle.mm_stack.specs.declared.outcome.Outcome.TheVariants as outcome
 use Rattle.mm_stack.specs.declared.outcome.Verdict.{Verdict}

@@ -5,3 +5,4 @@ pub mod Running
 pub mod Decoding
 pub mod Accepting
 pub mod Machines
+pub mod Laws

@@ -8,8 +8,8 @@ use Rattle.mm_scope.specs.Contents.{stated_at}
 use Rattle.mm_scope.specs.declared.statement.Kind.{Kind}
 use Rattle.mm_scope.specs.declared.statement.Kind.TheVariants as kind
 use Rattle.mm_stack.specs.Substitution.{Binding, value_of, instance}
-use Rattle.mm_stack.specs.declared.outcome.Fault.{Fault}
-use Rattle.mm_stack.specs.declared.outcome.Fault.TheVariants.{Underflow, FloatMismatch, EssentialMismatch, TooLong}
+use Rattle.mm_stack.specs.declared.outcome.StackFault.{StackFault}
+use Rattle.mm_stack.specs.declared.outcome.StackFault.TheVariants.{Underflow, FloatMismatch, EssentialMismatch, TooLong}
 use Rattle.mm_stack.specs.declared.outcome.Outcome.{Outcome}
 use Rattle.mm_stack.specs.declared.outcome.Outcome.TheVariants.{Incomplete, Faulty}
 use Rattle.mm_stack.specs.declared.step.Step.{Step}
@@ -60,7 +60,7 @@ abbrev pub is_instance : (ℕ → List ℕ) → Argument → Bool
 is_instance value a = is_float a.hypothesis.kind || bytes_eq (instance value a.hypothesis.symbols) a.entry
 
 -- the fault of the first check that holds, if one does
-abbrev pub unless : {A : Type 0} → List (Bool × Fault) → Result A Outcome → Result A Outcome
+abbrev pub unless : {A : Type 0} → List (Bool × StackFault) → Result A Outcome → Result A Outcome
 unless [] r = r
 unless (c ∷ cs) r = if c.0 then Err (Faulty c.1) else unless cs r
 
@@ -86,7 +86,7 @@ abbrev pub conclusion_at : List ℕ → Stated → List (List ℕ) → List ℕ
 conclusion_at bytes a stack = instance (values_at bytes a stack) a.symbols
 
 -- the faults of an assertion as step k, in the order in which they are tried
-abbrev pub checks : List ℕ → Stated → List (List ℕ) → ℕ → List (Bool × Fault)
+abbrev pub checks : List ℕ → Stated → List (List ℕ) → ℕ → List (Bool × StackFault)
 checks bytes a stack k =
     (nat_lt (length stack) (length a.mandatory), Underflow k)
     ∷ (not (list_all has_typecode (popped bytes a stack)), FloatMismatch k)

@@ -7,7 +7,7 @@ ghost use Rattle.mm_stack.specs.Accepting.{outcome_at, outcome_of, verdict_by, v
 
 use crate::decode::decode;
 use crate::machine::{Machine, Stop};
-use crate::outcome::{Fault, Outcome, ProofFault, Verdict};
+use crate::outcome::{Outcome, ProofFault, StackFault, Verdict};
 use crate::stack::Stack;
 use mm_scope::{Database, StmtId};
 use std::alloc::{AllocError as Memory, Global};
@@ -18,18 +18,18 @@ fn outcome_at(stack: &Stack, goal: &[u32]) -> Outcome
 {
     let count = stack.count();
     if count != 1 {
-        return Outcome::Faulty(Fault::LeftOver(count as u64));
+        return Outcome::Faulty(StackFault::LeftOver(count as u64));
     }
     if stack.entry(0) == goal {
         Outcome::Accepted
     } else {
-        Outcome::Faulty(Fault::WrongResult)
+        Outcome::Faulty(StackFault::WrongResult)
     }
 }
 
 /// What comes of a theorem's proof.
 #[tactic(auto, unfolding(crate::specs::Accepting::outcome_of))]
-fn outcome_of(alloc: Global, db: &Database, id: StmtId) -> Result<Outcome, Memory>
+pub(crate) fn outcome_of(alloc: Global, db: &Database, id: StmtId) -> Result<Outcome, Memory>
     requires own { id.0 < length (labels_of db.now) }
     requires theorem { (stated_at db.now id.0).kind ≡ Theorem }
     ensures { IfOk result (λ outcome. outcome ≡ outcome_of db.now id.0) }
@@ -37,7 +37,7 @@ fn outcome_of(alloc: Global, db: &Database, id: StmtId) -> Result<Outcome, Memor
     let steps = match decode(alloc, db, id) {
         Ok(steps) => steps,
         Err(ProofFault::Memory) => return Err(Memory),
-        Err(fault) => return Ok(Outcome::Faulty(Fault::Proof(fault))),
+        Err(fault) => return Ok(Outcome::Faulty(StackFault::Proof(fault))),
     };
     let mut machine = Machine::new(alloc);
     match machine.run(db, steps.as_slice()) {

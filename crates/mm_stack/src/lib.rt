@@ -8,6 +8,7 @@
 mod accept;
 mod decode;
 mod instance;
+mod laws;
 mod machine;
 mod outcome;
 mod stack;
@@ -15,6 +16,9 @@ mod step;
 #[cfg(test)]
 mod tests;
 mod values;
+#[cfg(test)]
+mod verdicts;
 
 pub use accept::verify;
+pub use laws::assertions_substitute;
 pub use outcome::Verdict;

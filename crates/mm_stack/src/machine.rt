@@ -10,7 +10,7 @@ ghost use Rattle.mm_stack.specs.Machines.{Means, IsOwn, GivesStack};
 ghost use Rattle.mm_stack.specs.declared.machine.Stop.TheVariants.{Memory};
 
 use crate::instance::{fill, is_instance};
-use crate::outcome::{Fault, Outcome};
+use crate::outcome::{Outcome, StackFault};
 use crate::stack::Stack;
 use crate::step::Step;
 use crate::values::Values;
@@ -40,7 +40,7 @@ pub struct Machine {
     pushed: Vec<u32>,
 }
 
-fn faulty(fault: Fault) -> Stop
+fn faulty(fault: StackFault) -> Stop
     ensures { result ≡ Stop.Ended (Outcome.Faulty fault) }
 {
     Stop::Ended(Outcome::Faulty(fault))
@@ -153,17 +153,17 @@ impl Machine {
         let mandatory = frame.mandatory.as_slice();
         let count = self.stack.count();
         if count < mandatory.len() {
-            return Err(faulty(Fault::Underflow(number)));
+            return Err(faulty(StackFault::Underflow(number)));
         }
         if !bind_all(&mut self.values, &self.stack, db, mandatory)? {
-            return Err(faulty(Fault::FloatMismatch(number)));
+            return Err(faulty(StackFault::FloatMismatch(number)));
         }
         if !all_agree(&self.values, &self.stack, db, mandatory) {
-            return Err(faulty(Fault::EssentialMismatch(number)));
+            return Err(faulty(StackFault::EssentialMismatch(number)));
         }
         let symbols = frame.conclusion.as_slice();
         if !fill(&self.values, &self.stack, symbols, &mut self.pushed)? {
-            return Err(faulty(Fault::TooLong(number)));
+            return Err(faulty(StackFault::TooLong(number)));
         }
         self.stack.truncate(count - mandatory.len());
         self.stack.push(self.pushed.as_slice())?;

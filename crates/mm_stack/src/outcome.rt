@@ -38,7 +38,7 @@ impl<T: Drop> From<AllocFailed<T>> for ProofFault {
 
 /// Why a proof does not prove its theorem. Steps are counted from 1.
 #[derive(Clone, Copy, Debug, PartialEq, Eq)]
-pub enum Fault {
+pub enum StackFault {
     /// The text spells no steps.
     Proof(ProofFault),
     /// The step wants more entries than there are.
@@ -62,5 +62,5 @@ pub enum Outcome {
     Accepted,
     /// It has a step `?`, and no fault before it.
     Incomplete,
-    Faulty(Fault),
+    Faulty(StackFault),
 }

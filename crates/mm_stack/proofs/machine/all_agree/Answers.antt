@@ -1,8 +1,7 @@
-use Rattle.std.proofs.Common.{◌≡◌, ◌&&◌, ◌-◌, sym, ap, ◌∙◌, arith, refl, true, drop, get_or, length, []}
-use Rattle.std.specs.List.{list_all}
+use Rattle.std.proofs.Common.{◌&&◌, sym, ap, arith, refl, true}
 use Rattle.mm_stack.specs.Seats.{value_in}
 use Rattle.mm_stack.specs.Running.{is_instance}
-use Rattle.mm_stack.proofs.Assertions.{newest, newest_rest, newest_end, newest_fails, IsAt}
+use Rattle.mm_stack.proofs.Assertions.{newest_rest, newest_end, newest_fails, IsAt}
 use Rattle.mm_stack.proofs.machine.all_agree.Goals as goal
 
 pub loop-left-init : goal.loop-left-init

@@ -1,8 +1,7 @@
 use Rattle.std.proofs.Common.{◌≡◌, ◌≤◌, ◌+◌, ◌-◌, true, length, drop}
 use Rattle.std.specs.List.{list_all}
 use Rattle.mm_stack.specs.Seats.{value_in}
-use Rattle.mm_stack.specs.Running.{arguments, has_typecode, is_instance, substitution_of}
-use Rattle.mm_stack.specs.Machines.{Means}
+use Rattle.mm_stack.specs.Running.{arguments, is_instance}
 use Rattle.mm_stack.proofs.machine.all_agree.Given as goal
 
 abbrev pub invariant-loop-left : goal.invariant-loop-left

@@ -1,5 +1,4 @@
-use Rattle.std.proofs.Common.{◌≡◌, ◌&&◌, ◌-◌, sym, ap, ◌∙◌, arith, refl, true, subst, drop, get_or, length, []}
-use Rattle.std.specs.List.{list_all}
+use Rattle.std.proofs.Common.{◌&&◌, sym, ap, ◌∙◌, arith, refl, true, subst, drop}
 use Rattle.mm_stack.specs.Seats.{value_by}
 use Rattle.mm_stack.specs.Running.{has_typecode, substitution_of}
 use Rattle.mm_stack.specs.Machines.{Means}

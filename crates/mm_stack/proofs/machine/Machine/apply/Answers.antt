@@ -1,9 +1,8 @@
-use Rattle.std.proofs.Common.{◌≡◌, ◌-◌, ◌++◌, ◌∷◌, [], sym, ap, ◌∙◌, arith, length, take, ℕ, List, Ok, Result}
+use Rattle.std.proofs.Common.{◌≡◌, ◌-◌, ◌++◌, ◌∷◌, [], sym, ap, ◌∙◌, arith, length, take, Ok}
 use Rattle.mm_scope.specs.Contents.{stated_at}
 use Rattle.mm_stack.specs.Seats.{value_in}
 use Rattle.mm_stack.specs.Substitution.{instance}
 use Rattle.mm_stack.proofs.Assertions.{underflowed, mismatched, disagreed, passed, pushed, Fits}
-use Rattle.mm_stack.specs.declared.outcome.Outcome.{Outcome}
 use Rattle.mm_stack.proofs.machine.Machine.apply.Goals as goal
 use Rattle.mm_stack.proofs.machine.Machine.apply.Goals.{After-all_agree}
 

@@ -1,5 +1,4 @@
-use Rattle.std.proofs.Common.{◌∙◌, ◌≡◌, ◌<◌, sym, ap, take, arith, rules, length, get_or}
-use Rattle.std.specs.Prelude.{slice_range}
+use Rattle.std.proofs.Common.{◌≡◌, ◌<◌, sym, take, arith, rules, length, get_or}
 use Rattle.std.proofs.lemmas.List.{get_or_past, get_or_read}
 use Rattle.mm_stack.specs.Entries.{top_from, entries_from}
 use Rattle.mm_stack.proofs.Cuts.{entry_at, cut_at, length_entries}

@@ -1,4 +1,4 @@
-use Rattle.std.proofs.Common.{◌∙◌, ◌≡◌, ◌≤◌, ◌+◌, ◌++◌, sym, ap, take, length, refl, arith, rules, length-append}
+use Rattle.std.proofs.Common.{◌∙◌, ◌≡◌, ◌+◌, ◌++◌, ap, take, length, refl, arith, rules, length-append}
 use Rattle.std.proofs.lemmas.List.{length-take-le}
 use Rattle.mm_stack.specs.Entries.{top_from}
 use Rattle.mm_stack.proofs.Cuts.{entries_push, cut_to, cut_push, cut_top}

@@ -1,4 +1,3 @@
-use Rattle.std.proofs.Common.{◌∙◌, sym, ap, take}
 use Rattle.mm_stack.proofs.Cuts.{entries-take, cut-take}
 use Rattle.mm_stack.proofs.stack.Stack.truncate.Goals as goal
 

@@ -1,6 +1,5 @@
-use Rattle.std.proofs.Common.{◌≡◌, ◌<◌, ◌==◌, ◌+◌, ◌-◌, ◌++◌, ℕ, arith, ap, sym, ◌∙◌, length, replicate, get_or, map, Some, None, Option, if◌then◌else◌, length-append}
+use Rattle.std.proofs.Common.{◌<◌, ◌==◌, ◌+◌, ◌-◌, ◌++◌, ℕ, arith, ap, ◌∙◌, length, replicate, get_or, Some, None, Option, if◌then◌else◌, length-append}
 use Rattle.std.proofs.lemmas.List.{length-replicate}
-use Rattle.mm_stack.specs.Seats.{seated_in}
 use Rattle.mm_stack.specs.declared.values.Seat.{Seat}
 use Rattle.mm_stack.proofs.Turns.{set_seat, more_seats}
 use Rattle.mm_stack.proofs.values.Values.set.Goals as goal

@@ -1,0 +1,5 @@
+use Rattle.mm_stack.proofs.Substituting.{applied_substitutes}
+use Rattle.mm_stack.proofs.laws.assertions_substitute.Goals as goal
+
+pub returns : goal.returns
+returns c = λ a k stack next apart h. applied_substitutes c.args.bytes.now a stack next k apart h
