@@ -28,7 +28,8 @@ MM> READ demo0.mm
 Read: labelled 15, axioms 7, theorems 1.
 MM> VERIFY PROOF th1
 Checked 1: accepted 1, incomplete 0, faulty 0.
-MM> \n".as_slice()
+MM> \n"
+            .as_slice()
     );
     Ok(())
 }
@@ -39,7 +40,10 @@ fn each_refusal_has_its_text(rt: HostRuntime) -> Result<(), Fail> {
     let mut files = MemFiles::new(alloc, &[])?;
     for (name, bytes) in [
         (b"wrong.mm".as_slice(), WRONG),
-        (b"pairs.mm".as_slice(), b"$c a $. $v x y $. $d x y $.".as_slice()),
+        (
+            b"pairs.mm".as_slice(),
+            b"$c a $. $v x y $. $d x y $.".as_slice(),
+        ),
     ] {
         assert!(rt; is_name(name));
         files.add(alloc, name, bytes)?;
@@ -94,7 +98,8 @@ MM> EXIT
 ?C60: not built yet
 MM> verify proof right
 Checked 1: accepted 1, incomplete 0, faulty 0.
-MM> \n".as_slice()
+MM> \n"
+            .as_slice()
     );
     Ok(())
 }
