@@ -1,0 +1,9 @@
+//! What the `$d` statements of a Metamath database part: groups of variables, and the pairs that must differ.
+#![tactic(auto)]
+
+mod holders;
+mod pair;
+mod parted;
+
+pub use pair::Pair;
+pub use parted::{Parted, pairs_differ, pairs_stand_in_order};
