@@ -7,7 +7,7 @@ use Rattle.std.proofs.lemmas.Grind.{common_steps}
 use Rattle.std.proofs.lemmas.Bool.{eqb-true}
 use Rattle.std.proofs.lemmas.List.{get_or-set_same, set-get_or, map-set, get_or-map, take-take, length-take-le, take_at, take_all, drop_more, drop_all, map-append, length-map, append-nil}
 use Rattle.std.proofs.lemmas.List.Elements.{filter_more}
-use Rattle.mm_distinct.specs.Texts.{texts}
+use Rattle.mm_names.specs.Texts.{texts}
 use Rattle.mm_distinct.specs.Distinct.{is_held, holds_both}
 use Rattle.mm_distinct.specs.Numbering.{numbers_of, copies, numbers_from, shorter, AreNumbers, share, AtLeast, IsRising}
 

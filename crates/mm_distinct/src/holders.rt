@@ -14,7 +14,7 @@ pub struct Holders {
 
 impl Model for Holders {
     ghost use Rattle.std.specs.Prelude.{List, ℕ};
-    ghost use Rattle.mm_distinct.specs.Texts.{texts};
+    ghost use Rattle.mm_names.specs.Texts.{texts};
 
     ghost Value = { List (List ℕ) };
 

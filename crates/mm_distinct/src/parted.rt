@@ -20,7 +20,7 @@ pub struct Parted {
 impl Model for Parted {
     ghost use Rattle.std.specs.Prelude.{List, ℕ, length, ◌<◌, ◌^◌};
     ghost use Rattle.mm_distinct.specs.Numbering.{AreNumbers};
-    ghost use Rattle.mm_distinct.specs.Texts.{texts};
+    ghost use Rattle.mm_names.specs.Texts.{texts};
 
     ghost Value = { List (List ℕ) };
 

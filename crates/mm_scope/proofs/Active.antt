@@ -1,5 +1,5 @@
 -- Whether a hypothesis is active, by the table.
-use Rattle.std.proofs.Common.{◌≡◌, ◌<◌, ℕ, Bool, true, false, ◌&&◌, List, Option, Some, length, get_or, nat_eq, nat_lt, Result, Ok, Err, IfOk, refl, sym, ap, ◌∙◌, arith}
+use Rattle.std.proofs.Common.{◌≡◌, ◌<◌, ℕ, true, ◌&&◌, List, Option, Some, length, get_or, nat_eq, nat_lt, sym, ap, ◌∙◌, arith}
 use Rattle.std.proofs.lemmas.Grind.{common_steps}
 use Rattle.std.specs.List.{list_any}
 use Rattle.mm_scope.specs.Contents.{labels_of, active_at}

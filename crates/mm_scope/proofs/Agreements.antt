@@ -8,8 +8,8 @@ use Rattle.std.specs.List.{list_any, position_or_len}
 use Rattle.std.specs.Option.{is_some}
 use Rattle.std.specs.Str.{bytes_eq}
 use Rattle.mm_scope.specs.Contexts.{Context, add_to, activated, with_float}
-use Rattle.mm_scope.specs.Standings.{Standings}
-use Rattle.mm_scope.specs.Tables.{nothing, with_symbol, with_state, standing_at}
+use Rattle.mm_names.specs.Standings.{Standings}
+use Rattle.mm_names.specs.Tables.{nothing, with_symbol, with_state, standing_at}
 use Rattle.mm_scope.specs.Events.{Event, constant, variable, float, essential, asserted, theorem, distinct, symbols, labels, statements, active_hypotheses, open_blocks}
 use Rattle.mm_scope.specs.Looks.{known_as, moves, constants, is_active_of, is_floated_of}
 use Rattle.mm_scope.specs.Moves.{stack, in_force, IsBalanced}
@@ -18,7 +18,7 @@ use Rattle.mm_scope.specs.Mandatory.{mandatory_of}
 use Rattle.mm_scope.specs.Stated.{Stated}
 use Rattle.mm_scope.specs.declared.statement.Kind.{Kind}
 use Rattle.mm_scope.specs.declared.statement.Kind.TheVariants as kind
-use Rattle.mm_scope.specs.declared.table.Standing.{Standing}
+use Rattle.mm_names.specs.declared.table.Standing.{Standing}
 use Rattle.mm_scope.specs.declared.ending.Ending.TheVariants.{Active, Floated}
 use Rattle.mm_scope.proofs.LookBack.{holds}
 use Rattle.mm_scope.proofs.Stacks.{once_pushed}

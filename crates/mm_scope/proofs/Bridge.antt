@@ -20,7 +20,6 @@ use Rattle.mm_tokens.specs.Bytes.{is_bad}
 use Rattle.mm_scope.specs.declared.mode.Mode.{Mode}
 use Rattle.mm_scope.specs.declared.mode.Mode.TheVariants as mode
 use Rattle.mm_scope.specs.declared.ending.Block.{Block}
-use Rattle.mm_scope.specs.declared.ending.Ending.{Ending}
 use Rattle.mm_scope.specs.declared.fault.ReadFault.{ReadFault}
 use Rattle.mm_scope.specs.declared.fault.ReadFault.TheVariants as fault
 use Rattle.mm_scope.proofs.Stacks.{Once}

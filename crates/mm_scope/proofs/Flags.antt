@@ -1,16 +1,15 @@
 -- What an ending does to each standing.
-use Rattle.std.proofs.Common.{◌≡◌, ℕ, ◌+◌, ◌-◌, ◌<◌, ◌≤◌, Bool, true, false, not, ◌&&◌, ◌||◌, List, [], ◌∷◌, ◌++◌, length, take, drop, fold, set, refl, sym, ap, ◌∙◌, arith, ◌⊎◌, inl, inr, nat_eq, length-append}
+use Rattle.std.proofs.Common.{◌≡◌, ℕ, Bool, true, false, not, ◌&&◌, List, [], ◌∷◌, length, fold, set, refl, sym, ap, ◌∙◌, arith, ◌⊎◌, inl, inr, nat_eq}
 use Rattle.std.proofs.lemmas.Grind.{common_steps}
-use Rattle.std.proofs.lemmas.List.{take-append-drop, get_or-set_same, take-append-le, drop-append-le, drop-take}
-use Rattle.std.proofs.Math.ListN.{get_or-eq_default, length-set, drop_of_length-le}
-use Rattle.std.proofs.lemmas.Bool.{eqb-true, false≢true}
-use Rattle.std.specs.List.{list_any}
+use Rattle.std.proofs.lemmas.List.{get_or-set_same}
+use Rattle.std.proofs.Math.ListN.{get_or-eq_default, length-set}
+use Rattle.std.proofs.lemmas.Bool.{eqb-true}
 use Rattle.mm_scope.proofs.Stacks.{below_or, and_true, and_false}
 use Rattle.mm_scope.specs.Contexts.{ended}
 use Rattle.mm_scope.specs.Looks.{is_active_of, is_floated_of}
-use Rattle.mm_scope.specs.Standings.{Standings}
-use Rattle.mm_scope.specs.Tables.{nothing, with_state, standing_at}
-use Rattle.mm_scope.specs.declared.table.Standing.{Standing}
+use Rattle.mm_names.specs.Standings.{Standings}
+use Rattle.mm_names.specs.Tables.{nothing, with_state, standing_at}
+use Rattle.mm_names.specs.declared.table.Standing.{Standing}
 use Rattle.mm_scope.specs.declared.ending.Ending.{Ending}
 use Rattle.mm_scope.specs.declared.ending.Ending.TheVariants.{Active, Floated}
 

@@ -1,9 +1,9 @@
 -- One token more has the form that is read so far, or not.
-use Rattle.std.proofs.Common.{◌≡◌, ℕ, Bool, true, false, ◌&&◌, List, [], ◌∷◌, refl, sym, ap, ◌∙◌, subst}
+use Rattle.std.proofs.Common.{◌≡◌, ℕ, Bool, true, false, ◌&&◌, List, [], ◌∷◌, sym, ap, ◌∙◌}
 use Rattle.mm_tokens.specs.Pieces.{tokens_in}
 use Rattle.mm_tokens.specs.declared.pieces.Token.{Token as Run}
 use Rattle.mm_tokens.specs.declared.pieces.Piece.{Piece}
-use Rattle.mm_tokens.specs.declared.pieces.Piece.TheVariants.{Token, Comment, Open}
+use Rattle.mm_tokens.specs.declared.pieces.Piece.TheVariants.{Token}
 use Rattle.mm_scope.specs.Built.{is_built_word, deep_after, begins_proof, is_built_from}
 use Rattle.mm_scope.specs.Reading.{text_of}
 use Rattle.mm_scope.specs.Words.{word_of}

@@ -1,5 +1,5 @@
 -- The tables of the hypotheses hold what looking back finds.
-use Rattle.std.proofs.Common.{◌≡◌, ℕ, zero, suc, ◌+◌, ◌<◌, ◌≤◌, Bool, true, false, cond, not, ◌&&◌, ◌||◌, List, [], ◌∷◌, ◌++◌, Option, None, Some, is_none, length, take, drop, fold, set, get_or, refl, sym, ap, ◌∙◌, subst, arith, nat_eq, nat_lt, nat_le, length-append, ◌⊎◌, inl, inr}
+use Rattle.std.proofs.Common.{◌≡◌, ℕ, ◌+◌, ◌<◌, ◌≤◌, Bool, true, false, cond, not, ◌&&◌, ◌||◌, List, [], ◌∷◌, ◌++◌, Option, None, Some, is_none, length, take, drop, fold, refl, sym, ap, ◌∙◌, subst, arith, nat_eq, nat_lt, nat_le, length-append, ◌⊎◌, inl, inr}
 use Rattle.std.proofs.lemmas.Grind.{common_steps}
 use Rattle.std.proofs.lemmas.Bool.{eqb-true, true≢false, false≢true}
 use Rattle.std.proofs.lemmas.List.{get_or_append_left, get_or-set_same, take-append-drop}
@@ -9,8 +9,7 @@ use Rattle.std.specs.List.{list_any}
 use Rattle.mm_scope.specs.Contents.{past_before}
 use Rattle.mm_scope.specs.Contexts.{Context, add_to, ended}
 use Rattle.mm_scope.specs.Events.{Event, opened, closed, labels, hypothesis_moves, active_hypotheses}
-use Rattle.mm_scope.specs.Moves.{Move, item, stack, pop, in_force, IsBalanced}
-use Rattle.mm_scope.specs.Moves as move
+use Rattle.mm_scope.specs.Moves.{item, stack, pop, IsBalanced}
 use Rattle.mm_scope.specs.Until.{until_at, is_before, is_active_by, is_open, ended_before}
 use Rattle.mm_scope.specs.declared.ending.Block.{Block}
 use Rattle.mm_scope.proofs.Booleans.{list_any-append}

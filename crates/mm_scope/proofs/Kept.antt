@@ -1,5 +1,5 @@
 -- What a step keeps, if there is no fault.
-use Rattle.std.proofs.Common.{◌≡◌, ℕ, Bool, true, false, cond, not, ◌||◌, List, [], ◌∷◌, ◌++◌, Option, None, Some, length, position, slice_index, nat_lt, nat_eq, Result, Ok, Err, refl, sym, ap, ◌∙◌, subst, arith, length-append, ◌<◌}
+use Rattle.std.proofs.Common.{◌≡◌, ℕ, Bool, true, false, cond, not, ◌||◌, List, [], ◌∷◌, ◌++◌, Option, None, Some, length, position, slice_index, nat_lt, nat_eq, Result, Ok, Err, refl, sym, ◌∙◌, subst, arith, length-append, ◌<◌}
 use Rattle.std.proofs.Math.Seq.{get_or-append_seam}
 use Rattle.std.proofs.lemmas.Bool.{eqb-true, true≢false}
 use Rattle.std.specs.List.{list_any}

@@ -10,8 +10,9 @@ use Rattle.std.proofs.Math.Seq.{get_or-append_seam}
 use Rattle.std.specs.List.{list_any}
 use Rattle.std.specs.Str.{bytes_eq}
 use Rattle.mm_tokens.specs.declared.pieces.Token.{Token}
+use Rattle.mm_names.specs.Texts.{with_text}
 use Rattle.mm_scope.specs.Words.{word_of, is_bad_label, is_bad_symbol}
-use Rattle.mm_scope.specs.Events.{Event, put, with_text, constant, variable, float, essential, asserted, theorem, distinct, opened, closed, symbols, open_blocks}
+use Rattle.mm_scope.specs.Events.{Event, put, constant, variable, float, essential, asserted, theorem, distinct, opened, closed, symbols, open_blocks}
 use Rattle.mm_scope.specs.Laws.{openings, closings, NoneEnds, IsConstant, IsInScope, IsActive, SymbolsAreNumbered, Laws}
 use Rattle.mm_scope.specs.Looks.{look_back, known_as, moves, constants, is_active_of}
 use Rattle.mm_scope.specs.Moves.{in_force}

@@ -1,8 +1,6 @@
-mod Tables
 mod Booleans
 mod Counting
 mod Closing
-mod Marking
 mod Needed
 mod Active
 mod Loops
@@ -25,4 +23,7 @@ mod Lawful
 mod Tabled
 mod Forms
 mod Long
+mod Described
+mod Phrases
+mod Folds
 pub mod ContentsLemmas

@@ -1,9 +1,9 @@
 -- Marks on the needed symbols.
-use Rattle.std.proofs.Common.{◌≡◌, ℕ, Bool, false, ◌||◌, List, ◌++◌, flat_map, filter, nat_eq, slice_index, Result, Ok, Err, IfOk, refl, sym, ap, ◌∙◌}
+use Rattle.std.proofs.Common.{◌≡◌, ℕ, Bool, false, ◌||◌, List, flat_map, filter, nat_eq, slice_index, Result, Ok, Err, IfOk, sym, ap, ◌∙◌}
 use Rattle.std.proofs.lemmas.List.Elements.{filter_agree}
 use Rattle.std.specs.List.{list_any}
-use Rattle.mm_scope.specs.Mandatory.{statement_at, essential_symbols, symbols_with, is_mandatory, is_mandatory_by, mandatory_of}
-use Rattle.mm_scope.specs.Marked.{is_marked}
+use Rattle.mm_scope.specs.Mandatory.{statement_at, essential_symbols, symbols_with, is_mandatory_by, mandatory_of}
+use Rattle.mm_names.specs.Marked.{is_marked}
 use Rattle.mm_scope.specs.Stated.{Stated}
 use Rattle.mm_scope.proofs.Booleans.{list_any-append}
 

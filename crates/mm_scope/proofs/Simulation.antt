@@ -5,8 +5,8 @@ use Rattle.std.proofs.Math.ListN.{length-set}
 use Rattle.std.specs.List.{list_any}
 use Rattle.std.specs.Str.{bytes_eq}
 use Rattle.mm_scope.specs.Contexts.{Context, add_to, answers, close, ended}
-use Rattle.mm_scope.specs.Standings.{Standings}
-use Rattle.mm_scope.specs.Tables.{standing_at}
+use Rattle.mm_names.specs.Standings.{Standings}
+use Rattle.mm_names.specs.Tables.{standing_at}
 use Rattle.mm_scope.specs.Until.{ended_before}
 use Rattle.mm_scope.specs.Events.{Event, opened, closed, symbols, labels, statements, open_blocks}
 use Rattle.mm_scope.specs.Looks.{look_back, known_as, moves, constants, is_active_of, is_floated_of}

@@ -1,6 +1,5 @@
 -- What holds of each labelled statement, as events come.
-use Rattle.std.proofs.Common.{◌≡◌, ℕ, ◌+◌, ◌<◌, ◌≤◌, Bool, true, false, List, [], ◌∷◌, ◌++◌, Option, length, take, get_or, All, refl, sym, ap, ◌∙◌, subst, arith, length-append, ◌⊎◌, inl, inr}
-use Rattle.std.proofs.lemmas.Grind.{common_steps}
+use Rattle.std.proofs.Common.{◌≡◌, ℕ, ◌+◌, ◌<◌, ◌≤◌, true, false, List, [], ◌∷◌, ◌++◌, length, take, All, sym, ap, ◌∙◌, subst, arith, length-append, ◌⊎◌, inl, inr}
 use Rattle.std.proofs.lemmas.Bool.{false≢true}
 use Rattle.std.proofs.lemmas.List.{get_or_append_left}
 use Rattle.std.proofs.lemmas.List.Elements.{All-push, All-nil, All-filter, All-take}
@@ -9,7 +8,6 @@ use Rattle.mm_scope.specs.Contexts.{Context}
 use Rattle.mm_scope.specs.Events.{Event, labels, statements, active_hypotheses}
 use Rattle.mm_scope.specs.Mandatory.{statement_at, symbols_with, is_mandatory, mandatory_of}
 use Rattle.mm_scope.specs.Stated.{Stated, no_statement, is_hypothesis}
-use Rattle.mm_scope.specs.declared.statement.Kind.{Kind}
 use Rattle.mm_scope.specs.declared.statement.Kind.TheVariants as kind
 use Rattle.mm_scope.proofs.Stacks.{below_or}
 

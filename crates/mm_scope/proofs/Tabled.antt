@@ -1,6 +1,5 @@
 -- The tables of a database that was read.
-use Rattle.std.proofs.Common.{◌≡◌, ◌<◌, ◌≤◌, ℕ, Bool, true, false, ◌&&◌, List, [], ◌∷◌, Option, None, Some, length, take, position, nat_eq, Result, Ok, Err, is_ok, refl, sym, ap, ◌∙◌, subst, arith}
-use Rattle.std.proofs.lemmas.Bool.{true≢false}
+use Rattle.std.proofs.Common.{◌≡◌, ◌<◌, ◌≤◌, ℕ, Bool, true, false, ◌&&◌, List, [], ◌∷◌, Option, None, Some, length, position, nat_eq, Result, Ok, Err, is_ok, sym, ap, ◌∙◌, subst, arith}
 use Rattle.std.proofs.lemmas.List.{length-take}
 use Rattle.std.specs.List.{list_any}
 use Rattle.mm_tokens.specs.Bytes.{is_bad}
@@ -10,7 +9,7 @@ use Rattle.mm_scope.specs.Built.{has_built_form}
 use Rattle.mm_scope.specs.ByTables.{tables_of}
 use Rattle.mm_scope.specs.Contents.{events_in, events_of, is_read, is_built, labels_of, statements_of, symbols_of, active_at, past_before, IsSound}
 use Rattle.mm_scope.specs.Contexts.{Context, Fails, context_of, state_of}
-use Rattle.mm_scope.specs.Databases.{nothing_read, unless_begun, unless_open, at_the_end, read_by, database_of}
+use Rattle.mm_scope.specs.Databases.{nothing_read, unless_open, at_the_end, read_by, database_of}
 use Rattle.mm_scope.specs.Events.{Event, put, symbols, labels, statements, active_hypotheses, open_blocks}
 use Rattle.mm_scope.specs.Judged.{is_long, judged, clean, before_bad}
 use Rattle.mm_scope.specs.Keeps.{Keeps}

@@ -3,15 +3,16 @@ use Rattle.std.specs.Prelude.{◌≡◌, ℕ, ◌-◌, true, false, not, ◌==�
 use Rattle.std.specs.List.{list_any}
 use Rattle.std.specs.Str.{bytes_eq}
 use Rattle.mm_tokens.specs.declared.pieces.Span.{Span}
-use Rattle.mm_scope.specs.Events.{Event, constant, variable, float, essential, asserted, theorem, distinct, opened, closed, with_text}
+use Rattle.mm_names.specs.Texts.{with_text}
+use Rattle.mm_scope.specs.Events.{Event, constant, variable, float, essential, asserted, theorem, distinct, opened, closed}
 use Rattle.mm_scope.specs.Keeps.{stated}
 use Rattle.mm_scope.specs.Mandatory.{mandatory_of}
-use Rattle.mm_scope.specs.Standings.{Standings}
+use Rattle.mm_names.specs.Standings.{Standings}
 use Rattle.mm_scope.specs.Stated.{Stated}
 use Rattle.mm_scope.specs.Steps.{Answers, State}
-use Rattle.mm_scope.specs.Tables.{nothing, found_in, with_symbol, with_state, standing_at}
+use Rattle.mm_names.specs.Tables.{nothing, found_in, with_symbol, with_state, standing_at}
 use Rattle.mm_scope.specs.Until.{ended_before}
-use Rattle.mm_scope.specs.declared.table.Standing.{Standing}
+use Rattle.mm_names.specs.declared.table.Standing.{Standing}
 use Rattle.mm_scope.specs.declared.statement.Kind.{Kind}
 use Rattle.mm_scope.specs.declared.statement.Kind.TheVariants as kind
 use Rattle.mm_scope.specs.declared.ending.Ending.{Ending}

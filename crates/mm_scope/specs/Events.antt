@@ -1,7 +1,6 @@
 -- What stands in a database, and what follows from it. A past is a list of events, the newest first.
-use Rattle.std.specs.Prelude.{ℕ, zero, List, [], ◌∷◌, ◌++◌, Option, length, drop, if◌then◌else◌}
-use Rattle.std.specs.List.{list_any}
-use Rattle.std.specs.Str.{bytes_eq}
+use Rattle.std.specs.Prelude.{ℕ, zero, List, [], ◌∷◌, ◌++◌, Option, length, drop}
+use Rattle.mm_names.specs.Texts.{with_text}
 use Rattle.mm_tokens.specs.declared.pieces.Span.{Span}
 use Rattle.mm_scope.specs.Mandatory.{mandatory_of}
 use Rattle.mm_scope.specs.Moves.{Move, in_force}
@@ -25,10 +24,6 @@ pub data Event : Type 0 where
 -- one event more
 abbrev pub put : List Event → Event → List Event
 put past e = e ∷ past
-
--- with t at its end, unless it is there
-abbrev pub with_text : List (List ℕ) → List ℕ → List (List ℕ)
-with_text ts t = if list_any (bytes_eq t) ts then ts else ts ++ t ∷ []
 
 -- the symbols ever declared, each once, in order of first declaration
 unfoldable pub symbols : List Event → List (List ℕ)

@@ -1,4 +1,3 @@
-pub mod Texts
 pub mod Words
 pub mod Stated
 pub mod Mandatory
@@ -14,9 +13,8 @@ pub mod Built
 pub mod Contents
 pub mod Until
 pub mod Keeps
-pub mod Standings
-pub mod Tables
-pub mod Marked
 pub mod Contexts
 pub mod ByTables
 pub mod Answered
+pub mod Folding
+pub mod Description

@@ -14,9 +14,9 @@ use crate::built::has_built_form;
 use crate::fault::ReadFault;
 use crate::file::read_file;
 use crate::frame::{Frame, Ids, Symbols};
-use crate::names::Names;
 use crate::reader::Reader;
 use crate::statement::{Kind, Statement};
+use mm_names::Names;
 use mm_tokens::Span;
 use std::alloc::Global;
 use std::marker::Model;
@@ -117,7 +117,7 @@ impl Database {
         self.labels.text(id.0 as usize)
     }
 
-    fn statement(&self, id: StmtId) -> &Statement
+    pub(crate) fn statement(&self, id: StmtId) -> &Statement
         requires { id.0 < length (labels_of self.now) }
         ensures value { stated result.now ≡ stated_at self.now id.0 }
         ensures sound { IsSound self.now id.0 }

@@ -1,6 +1,7 @@
 //! Reading a whole file.
 
-ghost use Rattle.std.specs.Prelude.{◌≡◌, ◌≤◌, length};
+ghost use Rattle.std.specs.Prelude.{◌≡◌, ◌≤◌, ◌<◌, IfSome, length, position};
+ghost use Rattle.mm_tokens.specs.Bytes.{is_bad};
 ghost use Rattle.mm_scope.specs.ByTables.{tables_of, at_end_of_file, at_the_end};
 ghost use Rattle.mm_scope.specs.Contexts.{GivesReader, state_of};
 ghost use Rattle.mm_scope.specs.Judged.{judged, clean};
@@ -27,13 +28,15 @@ fn judged(bytes: &[u8]) -> &[u8]
     }
 }
 
-/// What stands before the first bad byte.
+/// What stands before the first bad byte, whose place is given.
 #[tactic(auto, using(crate::proofs::Closing::take_length))]
-fn clean(bytes: &[u8]) -> &[u8]
+fn clean(bytes: &[u8], bad: Option<usize>) -> &[u8]
+    requires own { bad ≡ position is_bad bytes.now }
+    requires within { IfSome bad (λ place. place < length bytes.now) }
     ensures value { result.now ≡ clean bytes.now }
     ensures small { length result.now ≤ length bytes.now }
 {
-    match bad_byte(bytes) {
+    match bad {
         Some(place) => &bytes[..place],
         None => bytes,
     }
@@ -79,9 +82,10 @@ pub fn read_file(alloc: Global, bytes: &[u8]) -> Result<Reader, ReadFault>
     ensures { GivesReader result (tables_of bytes.now) }
 {
     let judged = judged(bytes);
+    let bad = bad_byte(judged);
     let mut reader = new_reader(alloc);
-    match read_pieces(alloc, clean(judged), &mut reader) {
-        Ok(unclosed) => at_the_end(reader, bad_byte(judged), bytes.len() > MOST_BYTES, unclosed),
+    match read_pieces(alloc, clean(judged, bad), &mut reader) {
+        Ok(unclosed) => at_the_end(reader, bad, bytes.len() > MOST_BYTES, unclosed),
         Err(fault) => Err(fault),
     }
 }

@@ -5,25 +5,25 @@
 
 mod built;
 mod database;
+mod description;
 mod ending;
 mod fault;
 mod file;
+mod folding;
 mod frame;
 mod laws;
 mod mandatory;
-mod marks;
 mod mode;
-mod names;
 mod reader;
 mod reading;
 mod statement;
-mod table;
 #[cfg(test)]
 mod tests;
 mod word;
 
 pub use database::{Database, StmtId, Sym};
 pub use fault::ReadFault;
+pub use folding::white_space_folds;
 pub use frame::{Frame, Ids, Symbols};
 pub use laws::{first_bytes_decide, labels_differ, symbols_are_declared};
 pub use statement::Kind;

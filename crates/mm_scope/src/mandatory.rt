@@ -4,10 +4,10 @@ ghost use Rattle.std.specs.Prelude.{◌≡◌, ◌||◌, ◌==◌, ℕ, map, fla
 ghost use Rattle.std.specs.List.{list_any};
 ghost use Rattle.mm_scope.specs.Keeps.{stated};
 ghost use Rattle.mm_scope.specs.Mandatory.{statement_at, essential_symbols, symbols_with, is_mandatory, is_mandatory_by, mandatory_of};
-ghost use Rattle.mm_scope.specs.Marked.{is_marked};
+ghost use Rattle.mm_names.specs.Marked.{is_marked};
 
-use crate::marks::Marks;
 use crate::statement::{Kind, Statement};
+use mm_names::Marks;
 use std::alloc::{AllocError, Global};
 
 /// Marks each of the numbers.

@@ -3,7 +3,7 @@
 ghost use Rattle.std.specs.Prelude.{◌≡◌, ◌<◌, ◌^◌, ◌==◌, [], not, fold, drop, take, Ok};
 ghost use Rattle.std.specs.List.{list_any};
 ghost use Rattle.std.specs.Str.{bytes_eq};
-ghost use Rattle.mm_scope.specs.Tables.{found_in};
+ghost use Rattle.mm_names.specs.Tables.{found_in};
 ghost use Rattle.mm_scope.specs.Contexts.{Gives, state_of, context_of, answers, add_to, finished, finished_hypothesis, finished_assertion, ended, closed_block};
 ghost use Rattle.mm_scope.specs.Until.{ended_before};
 ghost use Rattle.mm_scope.specs.Steps.{is_full, a_label, a_constant, a_variable, a_float, a_symbol, a_distinct, at_text, at_end, at_proof, unlabelled, at_constants, labelled, at_open, at_close, step_by, begin, end_declaration, end_float, end_statement, end_distinct};
@@ -12,12 +12,10 @@ ghost use Rattle.mm_scope.specs.Events.{essential, asserted};
 use crate::ending::{Block, Ending};
 use crate::fault::ReadFault;
 use crate::mandatory::mandatory_of;
-use crate::marks::Marks;
 use crate::mode::Mode;
-use crate::names::Names;
 use crate::statement::{Kind, Statement};
-use crate::table::{NOTHING, Standing, SymbolTable};
 use crate::word::{Word, is_bad_label, is_bad_symbol};
+use mm_names::{Marks, NOTHING, Names, Standing, SymbolTable};
 use mm_tokens::Span;
 use std::alloc::Global;
 

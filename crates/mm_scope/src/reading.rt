@@ -7,12 +7,10 @@ ghost use Rattle.mm_scope.specs.Contexts.{Gives, GivesPieces, state_of, empty_st
 ghost use Rattle.mm_scope.specs.Reading.{after, read_from, step, without_comment};
 
 use crate::fault::ReadFault;
-use crate::marks::Marks;
 use crate::mode::Mode;
-use crate::names::Names;
 use crate::reader::Reader;
-use crate::table::SymbolTable;
 use crate::word::word_of;
+use mm_names::{Marks, Names, SymbolTable};
 use mm_tokens::{Piece, Scanner, Token};
 use std::alloc::Global;
 

@@ -1,7 +1,7 @@
 use Rattle.std.proofs.Common.{◌≡◌, take, map, filter, slice_index}
 use Rattle.mm_scope.specs.Keeps.{stated}
 use Rattle.mm_scope.specs.Mandatory.{statement_at, is_mandatory_by}
-use Rattle.mm_scope.specs.Marked.{is_marked}
+use Rattle.mm_names.specs.Marked.{is_marked}
 use Rattle.mm_scope.proofs.mandatory.mandatory_marked.Given as goal
 
 abbrev pub invariant-loop-id : goal.invariant-loop-id

@@ -2,7 +2,7 @@ use Rattle.std.proofs.Common.{◌≡◌, ℕ, ◌||◌, take, nat_eq, flat_map, 
 use Rattle.std.specs.List.{list_any}
 use Rattle.mm_scope.specs.Keeps.{stated}
 use Rattle.mm_scope.specs.Mandatory.{statement_at, essential_symbols}
-use Rattle.mm_scope.specs.Marked.{is_marked}
+use Rattle.mm_names.specs.Marked.{is_marked}
 use Rattle.mm_scope.proofs.mandatory.mark_essentials.Given as goal
 
 abbrev pub invariant-loop-id : goal.invariant-loop-id

@@ -1,8 +1,7 @@
-use Rattle.std.proofs.Common.{ap, sym, ◌∙◌, subst, ◌≡◌, [], ◌∷◌, Some}
+use Rattle.std.proofs.Common.{ap, sym, ◌∙◌, subst}
 use Rattle.std.proofs.lemmas.Result.{err_from_is_err_and}
 use Rattle.mm_tokens.specs.Pieces.{open_in}
-use Rattle.mm_scope.specs.Contexts.{state_of, answers, add_to, Fails}
-use Rattle.mm_scope.specs.Reading.{read_from, with_comment}
+use Rattle.mm_scope.specs.Contexts.{state_of, Fails}
 use Rattle.mm_scope.proofs.Loops.{token_more, token_fails, token_open, comment_more, comment_open, open_stops, open_there, none_left}
 use Rattle.mm_scope.proofs.reading.read_pieces.Goals as goal
 

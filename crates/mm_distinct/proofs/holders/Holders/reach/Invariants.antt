@@ -1,6 +1,6 @@
 use Rattle.std.proofs.Common.{◌≡◌, ◌+◌, ◌-◌, ℕ, vec_len}
 use Rattle.mm_distinct.specs.Numbering.{numbers_of}
-use Rattle.mm_distinct.specs.Texts.{texts}
+use Rattle.mm_names.specs.Texts.{texts}
 use Rattle.mm_distinct.proofs.holders.Holders.reach.Given as goal
 
 abbrev pub invariant-loop-alloc : goal.invariant-loop-alloc

@@ -1,7 +1,7 @@
 use Rattle.std.proofs.Common.{ap, ◌∙◌, length, not, nat_eq}
 use Rattle.std.specs.List.{list_any}
 use Rattle.mm_distinct.specs.Distinct.{is_held}
-use Rattle.mm_distinct.specs.Texts.{texts}
+use Rattle.mm_names.specs.Texts.{texts}
 use Rattle.mm_distinct.proofs.Numbered.{held_somewhere}
 use Rattle.mm_distinct.proofs.parted.Parted.holds.Goals as goal
 

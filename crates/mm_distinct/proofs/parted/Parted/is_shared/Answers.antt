@@ -2,7 +2,7 @@ use Rattle.std.proofs.Common.{ap, ◌∙◌, List, ℕ, subst, sym}
 use Rattle.std.specs.List.{list_any}
 use Rattle.mm_distinct.specs.Distinct.{holds_both}
 use Rattle.mm_distinct.specs.Numbering.{share, IsRising, numbers_from}
-use Rattle.mm_distinct.specs.Texts.{texts}
+use Rattle.mm_names.specs.Texts.{texts}
 use Rattle.mm_distinct.proofs.Numbered.{shared, numbers_rise}
 use Rattle.mm_distinct.proofs.parted.Parted.is_shared.Goals as goal
 

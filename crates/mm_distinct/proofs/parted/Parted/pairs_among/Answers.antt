@@ -1,6 +1,6 @@
 use Rattle.std.proofs.Common.{◌≡◌, ◌≤◌, ◌+◌, ◌++◌, ap, sym, ◌∙◌, arith, length, drop, append_assoc, get_or, vec_len}
 use Rattle.std.proofs.lemmas.Bool.{eqb-true}
-use Rattle.mm_distinct.specs.Texts.{texts}
+use Rattle.mm_names.specs.Texts.{texts}
 use Rattle.std.proofs.lemmas.List.{append-nil, drop_all, take_rest, nil_from_length}
 use Rattle.mm_distinct.specs.Distinct.{pairs_among, pairs_with}
 use Rattle.mm_distinct.proofs.Distinct.{among_step, none_among}

@@ -1,7 +1,7 @@
 use Rattle.std.proofs.Common.{◌≡◌, ◌++◌, ◌∷◌, [], ap, ◌∙◌, arith, length}
 use Rattle.std.proofs.lemmas.List.{length-map, map-append}
 use Rattle.mm_distinct.specs.Numbering.{AreNumbers}
-use Rattle.mm_distinct.specs.Texts.{texts}
+use Rattle.mm_names.specs.Texts.{texts}
 use Rattle.mm_distinct.proofs.Numbered.{pushed}
 use Rattle.mm_distinct.proofs.parted.Parted.push.Goals as goal
 

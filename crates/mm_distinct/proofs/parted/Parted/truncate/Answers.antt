@@ -1,7 +1,7 @@
 use Rattle.std.proofs.Common.{◌≡◌, ◌≤◌, ◌++◌, ◌∷◌, [], ap, sym, ◌∙◌, arith, length, take, nat_eq, filter, length-append}
 use Rattle.std.proofs.lemmas.List.{length-map, map-append, take-append-le}
 use Rattle.mm_distinct.specs.Numbering.{AreNumbers, numbers_of, shorter}
-use Rattle.mm_distinct.specs.Texts.{texts}
+use Rattle.mm_names.specs.Texts.{texts}
 use Rattle.mm_distinct.proofs.Numbered.{popped}
 use Rattle.mm_distinct.proofs.parted.Parted.truncate.Goals as goal
 

@@ -1,6 +1,6 @@
 use Rattle.std.proofs.Common.{◌≡◌, ◌<◌, ◌^◌, take, length, vec_len}
 use Rattle.mm_distinct.specs.Numbering.{AreNumbers}
-use Rattle.mm_distinct.specs.Texts.{texts}
+use Rattle.mm_names.specs.Texts.{texts}
 use Rattle.mm_distinct.proofs.parted.Parted.truncate.Given as goal
 
 abbrev pub invariant-loop-self : goal.invariant-loop-self

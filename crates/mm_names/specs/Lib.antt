@@ -1,0 +1,4 @@
+pub mod Texts
+pub mod Standings
+pub mod Tables
+pub mod Marked
