@@ -1,6 +1,8 @@
 //! Whole sessions of `mmpa`, with the databases that they read: what the layers say together.
 #![tactic(auto)]
 
+#[cfg(test)]
+mod calls;
 pub mod databases;
 #[cfg(test)]
 mod first_path;
