@@ -60,10 +60,10 @@ impl SymbolTable {
     }
 
     /// The texts of the symbols.
-    pub fn into_names(self) -> Names
-        ensures { result ≡ self.texts }
+    pub fn names(&self) -> &Names
+        ensures { result.now ≡ self.now.texts }
     {
-        self.names
+        &self.names
     }
 
     pub fn find(&self, text: &[u8]) -> Found

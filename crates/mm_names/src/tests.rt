@@ -42,7 +42,7 @@ fn knows_symbols(rt: HostRuntime) -> Result<(), Fail> {
         standing: constant,
     };
     assert_eq!(rt; table.find(b"wff"), found);
-    assert_eq!(rt; table.into_names().len(), 2);
+    assert_eq!(rt; table.names().len(), 2);
     Ok(())
 }
 

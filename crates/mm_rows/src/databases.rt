@@ -37,3 +37,57 @@ two $p wff P $= wq wp $.
 open $p wff P $= ? $.
 right $p wff P $= wp $.
 ";
+
+/// Theorems with pairs of variables that must differ, of which `p4` lacks one.
+pub const DIST: &[u8] = b"\
+$c |- set = $.
+$v x y z $.
+vx $f set x $.
+vy $f set y $.
+vz $f set z $.
+${
+$d x y $.
+ne $a |- x = y $.
+lp.1 $e |- x = y $.
+lp $a |- x = x $.
+$}
+${
+$d x z $.
+p3 $p |- x = x $= vx vz vx vz ne lp $.
+$}
+p4 $p |- x = x $= vx vz vx vz ne lp $.
+";
+
+/// Theorems of which each has another fault in its proof.
+pub const FAULTY: &[u8] = b"\
+$c |- wff ( -> ) $.
+$v P Q $.
+wp $f wff P $.
+wq $f wff Q $.
+wim $a wff ( P -> Q ) $.
+ten $a wff P P P P P P P P P P $.
+ax $a |- ( P -> P ) $.
+${
+$d P Q $.
+two $a |- ( P -> Q ) $.
+$}
+${
+up.1 $e |- P $.
+up $a |- ( Q -> P ) $.
+$}
+right $p |- ( Q -> Q ) $= wq ax $.
+open $p |- ( Q -> Q ) $= wq ? wim $.
+folded $p |- ( Q -> Q ) $= ( ax ) AB $.
+unnamed $p |- ( Q -> Q ) $= wq nope $.
+later $p |- ( Q -> Q ) $= wq later $.
+outside $p |- ( Q -> Q ) $= wq $( a comment $) up.1 $.
+empty $p |- ( Q -> Q ) $= $( nothing $) $.
+short $p |- ( Q -> Q ) $= wq wim $.
+typed $p |- ( Q -> Q ) $= wq ax ax $.
+other $p |- ( Q -> Q ) $= wp wq wq ax up $.
+same $p |- ( Q -> Q ) $= wq wq two $.
+parted $p |- ( Q -> Q ) $= wp wq two $.
+left $p |- ( Q -> Q ) $= wq wq $.
+wrong $p |- ( Q -> Q ) $= wp ax $.
+long $p |- ( Q -> Q ) $= wq ten ten ten ten ten ax $.
+";

@@ -40,10 +40,7 @@ fn each_refusal_has_its_text(rt: HostRuntime) -> Result<(), Fail> {
     let mut files = MemFiles::new(alloc, &[])?;
     for (name, bytes) in [
         (b"wrong.mm".as_slice(), WRONG),
-        (
-            b"pairs.mm".as_slice(),
-            b"$c a $. $v x y $. $d x y $.".as_slice(),
-        ),
+        (b"open.mm".as_slice(), b"$c a $.\n$v x\n".as_slice()),
     ] {
         assert!(rt; is_name(name));
         files.add(alloc, name, bytes)?;
@@ -52,7 +49,7 @@ fn each_refusal_has_its_text(rt: HostRuntime) -> Result<(), Fail> {
     let end = run(
         alloc,
         "VERIFY PROOF right\n\
-         read pairs.mm\n\
+         read open.mm\n\
          READ none.mm\n\
          Read\twrong.mm\n\
          READ wrong.mm\n\
@@ -74,8 +71,8 @@ fn each_refusal_has_its_text(rt: HostRuntime) -> Result<(), Fail> {
         b"\
 MM> VERIFY PROOF right
 ?C5: no database
-MM> read pairs.mm
-?C60: not built yet
+MM> read open.mm
+?C8: database fault 20 at byte 8
 MM> READ none.mm
 ?C7: no file none.mm
 MM> Read\twrong.mm
@@ -87,11 +84,14 @@ MM> VERIFY PROOF wp
 MM> VERIFY PROOF none
 ?C9: no statement none
 MM> VERIFY PROOF wrong
-?C61: wrong is not verified
+wrong: fault 8
+Checked 1: accepted 0, incomplete 0, faulty 1.
 MM> VERIFY PROOF two
-?C61: two is not verified
+two: fault 7, 2 entries
+Checked 1: accepted 0, incomplete 0, faulty 1.
 MM> VERIFY PROOF open
-?C61: open is not verified
+open: incomplete
+Checked 1: accepted 0, incomplete 1, faulty 0.
 MM> VERIFY PROOF *
 ?C60: not built yet
 MM> EXIT

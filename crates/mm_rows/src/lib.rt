@@ -5,6 +5,10 @@
 mod calls;
 pub mod databases;
 #[cfg(test)]
+mod faults;
+#[cfg(test)]
 mod first_path;
+#[cfg(test)]
+mod frames;
 #[cfg(test)]
 mod session;

@@ -10,12 +10,14 @@ use Rattle.std.specs.Str.{bytes_eq}
 use Rattle.mm_scope.specs.Contexts.{Context, add_to, activated, with_float}
 use Rattle.mm_names.specs.Standings.{Standings}
 use Rattle.mm_names.specs.Tables.{nothing, with_symbol, with_state, standing_at}
-use Rattle.mm_scope.specs.Events.{Event, constant, variable, float, essential, asserted, theorem, distinct, symbols, labels, statements, active_hypotheses, open_blocks}
+use Rattle.mm_scope.specs.Events.{Event, constant, variable, float, essential, asserted, theorem, distinct, symbols, labels, statements, active_hypotheses, active_distinct, open_blocks}
 use Rattle.mm_scope.specs.Looks.{known_as, moves, constants, is_active_of, is_floated_of}
-use Rattle.mm_scope.specs.Moves.{stack, in_force, IsBalanced}
+use Rattle.mm_layers.specs.Layered.{Layered, pushed}
+use Rattle.mm_layers.specs.Moves.{in_force}
+use Rattle.mm_scope.specs.Moves.{stack, IsBalanced}
 use Rattle.mm_tokens.specs.declared.pieces.Span.{Span}
-use Rattle.mm_scope.specs.Mandatory.{mandatory_of}
-use Rattle.mm_scope.specs.Stated.{Stated}
+use Rattle.mm_scope.specs.Mandatory.{an_assertion}
+use Rattle.mm_scope.specs.Stated.{Stated, a_hypothesis}
 use Rattle.mm_scope.specs.declared.statement.Kind.{Kind}
 use Rattle.mm_scope.specs.declared.statement.Kind.TheVariants as kind
 use Rattle.mm_names.specs.declared.table.Standing.{Standing}
@@ -101,9 +103,9 @@ at_same get t k n same off = ap (λ j. get (standing_at t j)) (eqb-true k n same
 agrees_active : (past : List Event) (c : Context) (t : List ℕ) (n : ℕ) (u : Standings) (s : Standing) → Sets c.table u n s
     → u.texts ≡ symbols (variable t n ∷ past) → length u.standings ≡ length u.texts → s.active ≡ true → s.constant ≡ (standing_at c.table n).constant
     → s.floated ≡ (standing_at c.table n).floated → (standing_at c.table n).active ≡ false → Agrees past c
-    → Agrees (variable t n ∷ past) (record c { table = u; endings = c.endings ++ Active n ∷ [] })
+    → (v : Layered ℕ) → Agrees (variable t n ∷ past) (record c { table = u; endings = c.endings ++ Active n ∷ []; variables = v })
 unfolding labels statements constants moves stack IsBalanced open_blocks
-agrees_active past c t n u s sets texts sizes on same_constant same_floated off a = record {
+agrees_active past c t n u s sets texts sizes on same_constant same_floated off a v = record {
   texts = texts;
   sizes = sizes;
   labelled = a.labelled;
@@ -121,12 +123,12 @@ agrees_active past c t n u s sets texts sizes on same_constant same_floated off 
 }
 
 new_shape : (c : Context) (t : List ℕ) (m n : ℕ) → position (bytes_eq t) c.table.texts ≡ None → length c.table.texts ≡ n
-    → add_to c (variable t m) ≡ record c { table = with_symbol c.table t (activated nothing); endings = c.endings ++ Active n ∷ [] }
+    → add_to c (variable t m) ≡ record c { table = with_symbol c.table t (activated nothing); endings = c.endings ++ Active n ∷ []; variables = pushed c.variables (m ∷ []) }
 unfolding add_to
 new_shape c t m n e len = rw (e, len) refl
 
 again_shape : (c : Context) (t : List ℕ) (m n : ℕ) → position (bytes_eq t) c.table.texts ≡ Some n
-    → add_to c (variable t m) ≡ record c { table = with_state c.table n (activated (standing_at c.table n)); endings = c.endings ++ Active n ∷ [] }
+    → add_to c (variable t m) ≡ record c { table = with_state c.table n (activated (standing_at c.table n)); endings = c.endings ++ Active n ∷ []; variables = pushed c.variables (m ∷ []) }
 unfolding add_to
 again_shape c t m n e = rw e refl
 
@@ -143,14 +145,14 @@ agrees_variable past c t None e off a =
     let none = new_nothing c.table n len in
     subst (Agrees (variable t n ∷ past)) (sym (new_shape c t n n (ap (position (bytes_eq t)) a.texts ∙ e) (ap length a.texts)))
     (agrees_active past c t n (with_symbol c.table t s) s (new_sets c.table t s n len) (added t c.table.texts (symbols past) a.texts (not_there (bytes_eq t) (symbols past) e))
-    (new_sizes c.table t s a.sizes) refl (ap (λ x. x.constant) (sym none)) (ap (λ x. x.floated) (sym none)) (ap (λ x. x.active) none) a)
+    (new_sizes c.table t s a.sizes) refl (ap (λ x. x.constant) (sym none)) (ap (λ x. x.floated) (sym none)) (ap (λ x. x.active) none) a (pushed c.variables (n ∷ [])))
 agrees_variable past c t (Some n) e off a =
     let s : Standing = activated (standing_at c.table n) in
     let found = is_there t (symbols past) n e in
     let small : n < length c.table.standings = omega (arith, found.0, a.sizes, ap length a.texts) in
     subst (Agrees (variable t n ∷ past)) (sym (again_shape c t n n (ap (position (bytes_eq t)) a.texts ∙ e)))
     (agrees_active past c t n (with_state c.table n s) s (sets_state c.table n s small) (a.texts ∙ ap (λ b. cond b (symbols past) (symbols past ++ t ∷ [])) (sym found.1))
-    (length-set c.table.standings n s ∙ a.sizes) refl refl refl (a.active_flags n ∙ ap (list_any (is_active_of n)) (forced past c a) ∙ off) a)
+    (length-set c.table.standings n s ∙ a.sizes) refl refl refl (a.active_flags n ∙ ap (list_any (is_active_of n)) (forced past c a) ∙ off) a (pushed c.variables (n ∷ [])))
 
 -- the variable of a `$f` has none yet
 abbrev pub IsReady : List Event → ℕ → Type 0
@@ -185,7 +187,7 @@ agrees_float past c l ss d fresh ready a =
       marks = a.marks;
       balanced = a.balanced;
       places = a.places;
-      stated = ap (λ xs. xs ++ record { kind = kind.Float; symbols = ss; mandatory = []; from = 0; to = 0; described = d } ∷ []) a.stated;
+      stated = ap (λ xs. xs ++ a_hypothesis kind.Float ss d ∷ []) a.stated;
     }
 
 -- statements that end nothing
@@ -205,21 +207,20 @@ agrees_essential past c l ss d fresh a = record {
   marks = a.marks;
   balanced = a.balanced;
   places = a.places;
-  stated = ap (λ xs. xs ++ record { kind = kind.Essential; symbols = ss; mandatory = []; from = 0; to = 0; described = d } ∷ []) a.stated;
+  stated = ap (λ xs. xs ++ a_hypothesis kind.Essential ss d ∷ []) a.stated;
 }
 
--- one assertion more, with the mandatory hypotheses that looking back finds
-one_assertion : (k : Kind) (ss : List ℕ) (from to : ℕ) (d : Option Span) (xs ys : List Stated) (hs is : List ℕ) → xs ≡ ys → hs ≡ is
-    → xs ++ record { kind = k; symbols = ss; mandatory = mandatory_of xs hs ss; from = from; to = to; described = d } ∷ []
-    ≡ ys ++ record { kind = k; symbols = ss; mandatory = mandatory_of ys is ss; from = from; to = to; described = d } ∷ []
-one_assertion k ss from to d xs ys hs is e f =
-    ap (λ zs. zs ++ record { kind = k; symbols = ss; mandatory = mandatory_of zs hs ss; from = from; to = to; described = d } ∷ []) e
-    ∙ ap (λ zs. ys ++ record { kind = k; symbols = ss; mandatory = mandatory_of ys zs ss; from = from; to = to; described = d } ∷ []) f
+-- one assertion more, with the mandatory hypotheses and pairs that looking back finds
+one_assertion : (k : Kind) (ss : List ℕ) (from to : ℕ) (d : Option Span) (xs ys : List Stated) (hs is : List ℕ) (gs fs : List (List ℕ)) → xs ≡ ys → hs ≡ is → gs ≡ fs
+    → xs ++ an_assertion xs hs gs k ss from to d ∷ [] ≡ ys ++ an_assertion ys is fs k ss from to d ∷ []
+one_assertion k ss from to d xs ys hs is gs fs e f g =
+    ap (λ zs. zs ++ an_assertion zs hs gs k ss from to d ∷ []) e ∙ ap (λ zs. ys ++ an_assertion ys zs gs k ss from to d ∷ []) f
+    ∙ ap (λ zs. ys ++ an_assertion ys is zs k ss from to d ∷ []) g
 
 pub agrees_asserted : (past : List Event) (c : Context) (l ss : List ℕ) (d : Option Span) → list_any (bytes_eq l) (labels past) ≡ false
-    → c.hypotheses ≡ active_hypotheses past → Agrees past c → Agrees (asserted l ss d ∷ past) (add_to c (asserted l ss d))
+    → c.hypotheses ≡ active_hypotheses past → c.partings.now ≡ active_distinct past → Agrees past c → Agrees (asserted l ss d ∷ past) (add_to c (asserted l ss d))
 unfolding add_to symbols labels statements constants moves open_blocks
-agrees_asserted past c l ss d fresh act a = record {
+agrees_asserted past c l ss d fresh act groups a = record {
   texts = a.texts;
   sizes = a.sizes;
   labelled = new_label l c.labels (labels past) a.labelled fresh;
@@ -232,13 +233,13 @@ agrees_asserted past c l ss d fresh act a = record {
   marks = a.marks;
   balanced = a.balanced;
   places = a.places;
-  stated = one_assertion kind.Axiom ss 0 0 d c.statements (statements past) c.hypotheses (active_hypotheses past) a.stated act;
+  stated = one_assertion kind.Axiom ss 0 0 d c.statements (statements past) c.hypotheses (active_hypotheses past) c.partings.now (active_distinct past) a.stated act groups;
 }
 
 pub agrees_theorem : (past : List Event) (c : Context) (l ss : List ℕ) (from to : ℕ) (d : Option Span) → list_any (bytes_eq l) (labels past) ≡ false
-    → c.hypotheses ≡ active_hypotheses past → Agrees past c → Agrees (theorem l ss from to d ∷ past) (add_to c (theorem l ss from to d))
+    → c.hypotheses ≡ active_hypotheses past → c.partings.now ≡ active_distinct past → Agrees past c → Agrees (theorem l ss from to d ∷ past) (add_to c (theorem l ss from to d))
 unfolding add_to symbols labels statements constants moves open_blocks
-agrees_theorem past c l ss from to d fresh act a = record {
+agrees_theorem past c l ss from to d fresh act groups a = record {
   texts = a.texts;
   sizes = a.sizes;
   labelled = new_label l c.labels (labels past) a.labelled fresh;
@@ -251,7 +252,7 @@ agrees_theorem past c l ss from to d fresh act a = record {
   marks = a.marks;
   balanced = a.balanced;
   places = a.places;
-  stated = one_assertion kind.Theorem ss from to d c.statements (statements past) c.hypotheses (active_hypotheses past) a.stated act;
+  stated = one_assertion kind.Theorem ss from to d c.statements (statements past) c.hypotheses (active_hypotheses past) c.partings.now (active_distinct past) a.stated act groups;
 }
 
 pub agrees_distinct : (past : List Event) (c : Context) (ss : List ℕ) → Agrees past c → Agrees (distinct ss ∷ past) (add_to c (distinct ss))

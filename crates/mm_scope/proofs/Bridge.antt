@@ -3,14 +3,15 @@ use Rattle.std.proofs.Common.{◌≡◌, ℕ, zero, suc, ◌-◌, Bool, true, fa
 use Rattle.mm_tokens.specs.declared.pieces.Token.{Token}
 use Rattle.mm_tokens.specs.declared.pieces.Piece.{Piece}
 use Rattle.mm_tokens.specs.Pieces.{pieces_of, open_in}
-use Rattle.mm_scope.specs.Words.{word_of}
+use Rattle.mm_words.specs.Words.{word_of}
 use Rattle.mm_scope.specs.Contents.{events_in, events_of}
-use Rattle.mm_scope.specs.Events.{Event, put, symbols, labels, statements, hypothesis_moves, open_blocks}
+use Rattle.mm_scope.specs.Events.{Event, put, symbols, labels, statements, hypothesis_moves, variable_moves, distinct_moves, open_blocks}
 use Rattle.mm_scope.specs.Until.{until_at}
 use Rattle.mm_scope.specs.Steps.{State}
 use Rattle.mm_scope.specs.Contexts.{Context, Fails, add_to, answers, empty_state}
 use Rattle.mm_scope.specs.Laws.{LabelsDiffer}
 use Rattle.mm_scope.specs.Looks.{look_back, moves, constants, is_active_of, is_floated_of}
+use Rattle.mm_layers.specs.Layered.{layered}
 use Rattle.mm_scope.specs.Moves.{stack, IsBalanced}
 use Rattle.mm_scope.specs.Reading.{text_of, after, step, read_from}
 use Rattle.mm_scope.specs.ByTables as tables
@@ -24,11 +25,13 @@ use Rattle.mm_scope.specs.declared.fault.ReadFault.{ReadFault}
 use Rattle.mm_scope.specs.declared.fault.ReadFault.TheVariants as fault
 use Rattle.mm_scope.proofs.Stacks.{Once}
 use Rattle.mm_scope.proofs.Hypotheses.{HypothesesAgree, counts_of}
+use Rattle.mm_scope.proofs.Layering.{LayersAgree, knowns}
 use Rattle.mm_scope.proofs.Sound.{SoundAt}
 use Rattle.mm_scope.proofs.Held.{Held}
 use Rattle.std.proofs.lemmas.List.Elements.{All-nil}
 use Rattle.mm_scope.proofs.Natural.{mapped, map_ok}
 use Rattle.mm_scope.proofs.Simulation.{Agrees, Last, split_last, last_there, places_of, places_push, marks_of}
+use Rattle.mm_scope.proofs.SymbolsThen.{ConstantsAreNew}
 use Rattle.mm_scope.proofs.Whole.{IfFine, context_at, whole, fine_read}
 use Rattle.mm_scope.proofs.Kept.{Good, step_keeps}
 
@@ -75,8 +78,12 @@ sound_nothing : SoundAt [] (context_at [])
 unfolding context_at statements labels
 sound_nothing = record { all = λ id small. absurd (omega (arith, small)); hypotheses = All-nil _; counted = refl }
 
+layers_nothing : LayersAgree [] (context_at [])
+unfolding context_at hypothesis_moves variable_moves distinct_moves layered knowns
+layers_nothing = record { partings = refl; actives = refl; variables = refl; known = refl }
+
 good_nothing : Good nothing_read
-good_nothing = record { held = record { agrees = agrees_nothing; hypotheses = hypotheses_nothing; sound = sound_nothing; differ = tt }; fresh = tt; ready = tt }
+good_nothing = record { held = record { agrees = agrees_nothing; hypotheses = hypotheses_nothing; sound = sound_nothing; differ = tt; layers = layers_nothing; constants = tt }; fresh = tt; ready = tt }
 
 kept : (bytes : List ℕ) (s : State (List Event)) (k : Token) → Good s → IfFine (step put look_back bytes s k) Good
 kept bytes s k g = step_keeps s (word_of (text_of bytes k)) (text_of bytes k) k.start g
@@ -144,30 +151,37 @@ pub fault_matches : (bytes : List ℕ) (e : ReadFault) → Fails e (tables.table
 fault_matches bytes fault.Memory h = tt
 fault_matches bytes e h = subst (λ x. Matches x (database_of bytes)) h (all_match bytes)
 
--- labels differ in each database
-none_differ : (r : Result (List Event) ReadFault) → IfFine r LabelsDiffer → LabelsDiffer (events_in r)
-none_differ (Ok past) d = d
-none_differ (Err e) d = tt
+-- what holds after each past that reading reaches holds of each database
+module _ (P : List Event → Type 0) (nothing : P []) (reached : (past : List Event) → Held past → P past) where
+  at_all : (r : Result (List Event) ReadFault) → IfFine r P → P (events_in r)
+  at_all (Ok past) p = p
+  at_all (Err e) p = nothing
 
-end_differ : (s : State (List Event)) → Good s → (ps : List ℕ) (m : Mode) → IfFine (unless_open (record s { mode = m }) ps) LabelsDiffer
-end_differ s g [] mode.Start = g.held.differ
-end_differ s g [] _ = tt
-end_differ s g (p ∷ ps) m = tt
+  at_end : (s : State (List Event)) → Good s → (ps : List ℕ) (m : Mode) → IfFine (unless_open (record s { mode = m }) ps) P
+  at_end s g [] mode.Start = reached s.context g.held
+  at_end s g [] _ = tt
+  at_end s g (p ∷ ps) m = tt
 
-the_end_differ : (s : State (List Event)) → Good s → (bad : Option ℕ) (long : Bool) (unclosed : Option ℕ) → IfFine (at_the_end s bad long unclosed) LabelsDiffer
-the_end_differ s g (Some p) long unclosed = tt
-the_end_differ s g None true unclosed = tt
-the_end_differ s g None false (Some p) = tt
-the_end_differ s g None false None = end_differ s g (open_blocks s.context) s.mode
+  at_the_very_end : (s : State (List Event)) → Good s → (bad : Option ℕ) (long : Bool) (unclosed : Option ℕ) → IfFine (at_the_end s bad long unclosed) P
+  at_the_very_end s g (Some p) long unclosed = tt
+  at_the_very_end s g None true unclosed = tt
+  at_the_very_end s g None false (Some p) = tt
+  at_the_very_end s g None false None = at_end s g (open_blocks s.context) s.mode
 
-after_differ : (r : Result (State (List Event)) ReadFault) → IfFine r Good → (bad : Option ℕ) (long : Bool) (unclosed : Option ℕ)
-    → IfFine (after r (λ s. at_the_end s bad long unclosed)) LabelsDiffer
-after_differ (Ok s) g bad long unclosed = the_end_differ s g bad long unclosed
-after_differ (Err e) g bad long unclosed = tt
+  after_all : (r : Result (State (List Event)) ReadFault) → IfFine r Good → (bad : Option ℕ) (long : Bool) (unclosed : Option ℕ)
+      → IfFine (after r (λ s. at_the_end s bad long unclosed)) P
+  after_all (Ok s) g bad long unclosed = at_the_very_end s g bad long unclosed
+  after_all (Err e) g bad long unclosed = tt
+
+  pub of_each : (bytes : List ℕ) → P (events_of bytes)
+  unfolding events_of database_of
+  of_each bytes =
+      let text : List ℕ = clean (judged bytes) in
+      at_all (database_of bytes) (after_all (read_from put look_back text nothing_read (pieces_of text))
+      (fine_read Good (λ s c g. g) (λ s g. g) kept text (pieces_of text) nothing_read good_nothing) (position is_bad (judged bytes)) (is_long bytes) (open_in (pieces_of text)))
 
 pub labels_differ : (bytes : List ℕ) → LabelsDiffer (events_of bytes)
-unfolding events_of database_of
-labels_differ bytes =
-    let text : List ℕ = clean (judged bytes) in
-    none_differ (database_of bytes) (after_differ (read_from put look_back text nothing_read (pieces_of text))
-    (fine_read Good (λ s c g. g) (λ s g. g) kept text (pieces_of text) nothing_read good_nothing) (position is_bad (judged bytes)) (is_long bytes) (open_in (pieces_of text)))
+labels_differ = of_each LabelsDiffer tt (λ past h. h.differ)
+
+pub constants_are_new : (bytes : List ℕ) → ConstantsAreNew (events_of bytes)
+constants_are_new = of_each ConstantsAreNew tt (λ past h. h.constants)

@@ -1,5 +1,5 @@
 -- What holds after a past, event by event: the tables say what looking back finds, and each statement is sound.
-use Rattle.std.proofs.Common.{◌≡◌, ◌<◌, ℕ, ◌+◌, Bool, true, false, List, [], ◌∷◌, ◌++◌, Option, None, Some, length, position, slice_index, refl, ap, ◌∙◌, arith, length-append}
+use Rattle.std.proofs.Common.{◌≡◌, ◌<◌, ◌≤◌, ℕ, ◌+◌, Bool, true, false, List, [], ◌∷◌, ◌++◌, Option, None, Some, length, position, slice_index, refl, ap, ◌∙◌, arith, length-append}
 use Rattle.std.proofs.lemmas.Bool.{true≢false}
 use Rattle.std.specs.List.{list_any}
 use Rattle.std.specs.Str.{bytes_eq}
@@ -13,7 +13,9 @@ use Rattle.mm_scope.specs.declared.statement.Kind.TheVariants as kind
 use Rattle.mm_scope.proofs.Agreements.{IsReady, not_there, agrees_constant, agrees_variable, agrees_float, agrees_essential, agrees_asserted, agrees_theorem, agrees_distinct}
 use Rattle.mm_scope.proofs.Hypotheses.{HypothesesAgree, forced, same_hypotheses, hypotheses_opened, hypotheses_closed, hypotheses_stated, hypotheses_asserted}
 use Rattle.mm_scope.proofs.Simulation.{Agrees, Last, split_last, deep_of, closing, agrees_opened, agrees_closed}
+use Rattle.mm_scope.proofs.Layering.{LayersAgree, parted, layers_constant, layers_variable, layers_distinct, layers_float, layers_essential, layers_asserted, layers_theorem, layers_opened, layers_closed}
 use Rattle.mm_scope.proofs.Sound.{SoundAt, sound_same, sound_closed, sound_stated, sound_asserted}
+use Rattle.mm_scope.proofs.SymbolsThen.{ConstantsAreNew}
 use Rattle.mm_scope.proofs.Whole.{context_at}
 
 -- what holds after a past
@@ -22,6 +24,8 @@ pub record Held (past : List Event) : Type 0 where
   pub hypotheses : HypothesesAgree past (context_at past)
   pub sound : SoundAt past (context_at past)
   pub differ : LabelsDiffer past
+  pub layers : LayersAgree past (context_at past)
+  pub constants : ConstantsAreNew past
 
 one_label : (l : List ℕ) (ls : List (List ℕ)) → length (ls ++ l ∷ []) ≡ length ls + 1
 one_label l ls = omega (arith, length-append ls (l ∷ []))
@@ -32,6 +36,10 @@ unfolding context_at
 new_constant past t None e off a = agrees_constant past (context_at past) t (length (symbols past)) (a.sizes ∙ ap length a.texts) (not_there (bytes_eq t) (symbols past) e) a
 new_constant past t (Some n) e off a = absurd (true≢false off)
 
+new_number : (past : List Event) (t : List ℕ) (r : Option ℕ) → position (bytes_eq t) (symbols past) ≡ r → (known_as past t r).known ≡ false → length (symbols past) ≤ (known_as past t r).number
+new_number past t None e off = omega arith
+new_number past t (Some n) e off = absurd (true≢false off)
+
 pub held_constant : (past : List Event) (t : List ℕ) (r : Option ℕ) → position (bytes_eq t) (symbols past) ≡ r → (known_as past t r).known ≡ false
     → Held past → Held (constant t (known_as past t r).number ∷ past)
 unfolding context_at add_to statements labels hypothesis_moves
@@ -40,6 +48,8 @@ held_constant past t r e off h = record {
   hypotheses = same_hypotheses (constant t (known_as past t r).number) past (context_at past) _ refl refl refl refl refl h.hypotheses;
   sound = sound_same (constant t (known_as past t r).number) past (context_at past) _ refl refl refl h.sound;
   differ = h.differ;
+  layers = layers_constant past (context_at past) t (known_as past t r).number h.layers;
+  constants = (new_number past t r e off, h.constants);
 }
 
 new_variable : (past : List Event) (t : List ℕ) (r : Option ℕ) → position (bytes_eq t) (symbols past) ≡ r → (known_as past t r).active ≡ false
@@ -55,15 +65,19 @@ held_variable past t r e off h = record {
   hypotheses = same_hypotheses (variable t (known_as past t r).number) past (context_at past) _ refl refl refl refl refl h.hypotheses;
   sound = sound_same (variable t (known_as past t r).number) past (context_at past) _ refl refl refl h.sound;
   differ = h.differ;
+  layers = layers_variable past (context_at past) t (known_as past t r).number h.layers;
+  constants = h.constants;
 }
 
 pub held_distinct : (past : List Event) (ss : List ℕ) → Held past → Held (distinct ss ∷ past)
 unfolding context_at add_to statements labels hypothesis_moves
 held_distinct past ss h = record {
   agrees = agrees_distinct past (context_at past) ss h.agrees;
-  hypotheses = same_hypotheses (distinct ss) past (context_at past) (context_at past) refl refl refl refl refl h.hypotheses;
-  sound = sound_same (distinct ss) past (context_at past) (context_at past) refl refl refl h.sound;
+  hypotheses = same_hypotheses (distinct ss) past (context_at past) _ refl refl refl refl refl h.hypotheses;
+  sound = sound_same (distinct ss) past (context_at past) _ refl refl refl h.sound;
   differ = h.differ;
+  layers = layers_distinct past (context_at past) ss h.layers;
+  constants = h.constants;
 }
 
 pub held_float : (past : List Event) (l ss : List ℕ) (d : Option Span) → list_any (bytes_eq l) (labels past) ≡ false → IsReady past (slice_index ss 1) → length ss ≡ 2
@@ -74,6 +88,8 @@ held_float past l ss d fresh ready two h = record {
   hypotheses = hypotheses_stated (float l ss d) past (context_at past) _ refl refl refl h.agrees.labelled (one_label l (labels past)) refl h.hypotheses;
   sound = sound_stated (float l ss d) past (context_at past) _ _ refl (one_label l (labels past)) refl h.agrees.labelled refl refl (omega (arith, two)) (λ _. two) h.sound;
   differ = (fresh, h.differ);
+  layers = layers_float past (context_at past) l ss d h.agrees.labelled h.agrees.texts h.layers;
+  constants = h.constants;
 }
 
 not_float : kind.Essential ≡ kind.Float → {n : ℕ} → n ≡ 2
@@ -91,6 +107,8 @@ held_essential past l ss d fresh some h = record {
   hypotheses = hypotheses_stated (essential l ss d) past (context_at past) _ refl refl refl h.agrees.labelled (one_label l (labels past)) refl h.hypotheses;
   sound = sound_stated (essential l ss d) past (context_at past) _ _ refl (one_label l (labels past)) refl h.agrees.labelled refl refl some (λ e. not_float e) h.sound;
   differ = (fresh, h.differ);
+  layers = layers_essential past (context_at past) l ss d h.agrees.labelled h.agrees.texts h.layers;
+  constants = h.constants;
 }
 
 pub held_asserted : (past : List Event) (l ss : List ℕ) (d : Option Span) → list_any (bytes_eq l) (labels past) ≡ false → 0 < length ss
@@ -99,10 +117,12 @@ unfolding context_at add_to statements labels hypothesis_moves
 held_asserted past l ss d fresh some h =
     let act : (context_at past).hypotheses ≡ active_hypotheses past = forced past (context_at past) h.hypotheses in
     record {
-      agrees = agrees_asserted past (context_at past) l ss d fresh act h.agrees;
+      agrees = agrees_asserted past (context_at past) l ss d fresh act (parted past (context_at past) h.layers) h.agrees;
       hypotheses = hypotheses_asserted (asserted l ss d) past (context_at past) _ refl refl refl (one_label l (labels past)) refl h.hypotheses;
       sound = sound_asserted (asserted l ss d) past (context_at past) _ _ refl (one_label l (labels past)) refl act refl refl some h.sound;
       differ = (fresh, h.differ);
+      layers = layers_asserted past (context_at past) l ss d h.agrees.texts h.layers;
+      constants = h.constants;
     }
 
 pub held_theorem : (past : List Event) (l ss : List ℕ) (from to : ℕ) (d : Option Span) → list_any (bytes_eq l) (labels past) ≡ false → 0 < length ss
@@ -111,10 +131,12 @@ unfolding context_at add_to statements labels hypothesis_moves
 held_theorem past l ss from to d fresh some h =
     let act : (context_at past).hypotheses ≡ active_hypotheses past = forced past (context_at past) h.hypotheses in
     record {
-      agrees = agrees_theorem past (context_at past) l ss from to d fresh act h.agrees;
+      agrees = agrees_theorem past (context_at past) l ss from to d fresh act (parted past (context_at past) h.layers) h.agrees;
       hypotheses = hypotheses_asserted (theorem l ss from to d) past (context_at past) _ refl refl refl (one_label l (labels past)) refl h.hypotheses;
       sound = sound_asserted (theorem l ss from to d) past (context_at past) _ _ refl (one_label l (labels past)) refl act refl refl some h.sound;
       differ = (fresh, h.differ);
+      layers = layers_theorem past (context_at past) l ss from to d h.agrees.texts h.layers;
+      constants = h.constants;
     }
 
 opened_sound : (past : List Event) (p : ℕ) → SoundAt past (context_at past) → SoundAt (opened p ∷ past) (add_to (context_at past) (opened p))
@@ -132,6 +154,8 @@ held_opened past p h = record {
   hypotheses = hypotheses_opened past (context_at past) p h.hypotheses;
   sound = opened_sound past p h.sound;
   differ = h.differ;
+  layers = layers_opened past (context_at past) p h.layers;
+  constants = h.constants;
 }
 
 pub held_closed : (past : List Event) → 0 < length (open_blocks past) → Held past → Held (closed ∷ past)
@@ -144,4 +168,6 @@ held_closed past some h =
       hypotheses = hypotheses_closed past c l h.agrees.labelled h.hypotheses;
       sound = closed_sound past l h.sound;
       differ = h.differ;
+      layers = layers_closed past c h.layers;
+      constants = h.constants;
     }

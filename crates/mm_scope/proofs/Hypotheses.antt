@@ -7,9 +7,10 @@ use Rattle.std.proofs.Math.ListN.{get_or-eq_default, length-set}
 use Rattle.std.proofs.Math.Seq.{get_or-append_seam}
 use Rattle.std.specs.List.{list_any}
 use Rattle.mm_scope.specs.Contents.{past_before}
-use Rattle.mm_scope.specs.Contexts.{Context, add_to, ended}
+use Rattle.mm_scope.specs.Contexts.{Context, add_to, closed_layers, ended}
 use Rattle.mm_scope.specs.Events.{Event, opened, closed, labels, hypothesis_moves, active_hypotheses}
-use Rattle.mm_scope.specs.Moves.{item, stack, pop, IsBalanced}
+use Rattle.mm_layers.specs.Moves.{item, noted}
+use Rattle.mm_scope.specs.Moves.{stack, pop, IsBalanced}
 use Rattle.mm_scope.specs.Until.{until_at, is_before, is_active_by, is_open, ended_before}
 use Rattle.mm_scope.specs.declared.ending.Block.{Block}
 use Rattle.mm_scope.proofs.Booleans.{list_any-append}
@@ -37,17 +38,17 @@ pub record HypothesesAgree (past : List Event) (c : Context) : Type 0 where
 pub forced : (past : List Event) (c : Context) → HypothesesAgree past c → c.hypotheses ≡ active_hypotheses past
 forced past c a = a.stacked ∙ (holds (hypothesis_moves past) a.balanced).now
 
-above : (n at : ℕ) → at < n → nat_le n at ≡ false
+pub above : (n at : ℕ) → at < n → nat_le n at ≡ false
 above n at h = grind (arith, h)
 
-upto : (n at : ℕ) → n ≤ at → nat_le n at ≡ true
+pub upto : (n at : ℕ) → n ≤ at → nat_le n at ≡ true
 upto n at h = grind (arith, h)
 
-skip : (at : ℕ) (e : Event) (past : List Event) → at < length (labels (e ∷ past)) → past_before at (e ∷ past) ≡ past_before at past
+pub skip : (at : ℕ) (e : Event) (past : List Event) → at < length (labels (e ∷ past)) → past_before at (e ∷ past) ≡ past_before at past
 unfolding past_before
 skip at e past h = ap (λ b. cond b (e ∷ past) (past_before at past)) (above (length (labels (e ∷ past))) at h)
 
-here : (at : ℕ) (past : List Event) → length (labels past) ≤ at → past_before at past ≡ past
+pub here : (at : ℕ) (past : List Event) → length (labels past) ≤ at → past_before at past ≡ past
 unfolding past_before
 here at [] h = refl
 here at (e ∷ past) h = ap (λ b. cond b (e ∷ past) (past_before at past)) (upto (length (labels (e ∷ past))) at h)
@@ -192,7 +193,8 @@ or_true false = refl
 
 -- an assertion
 pub hypotheses_asserted : (e : Event) (past : List Event) (c d : Context) → d.until ≡ c.until ++ Some 0 ∷ [] → d.hypotheses ≡ c.hypotheses → d.blocks ≡ c.blocks
-    → length (labels (e ∷ past)) ≡ length (labels past) + 1 → hypothesis_moves (e ∷ past) ≡ hypothesis_moves past → HypothesesAgree past c → HypothesesAgree (e ∷ past) d
+    → length (labels (e ∷ past)) ≡ length (labels past) + 1 → hypothesis_moves (e ∷ past) ≡ noted ∷ hypothesis_moves past → HypothesesAgree past c → HypothesesAgree (e ∷ past) d
+unfolding stack IsBalanced
 hypotheses_asserted e past c d du dh db el em a = record {
   sizes = more_sizes e past c d (Some 0) [] du el (never (length (labels past))) a;
   stacked = dh ∙ a.stacked ∙ ap (λ ms. (stack ms).items) (sym em);
@@ -215,7 +217,7 @@ hypotheses_asserted e past c d du dh db el em a = record {
 -- a hypothesis
 pub hypotheses_stated : (e : Event) (past : List Event) (c d : Context) → d.until ≡ c.until ++ None ∷ [] → d.hypotheses ≡ c.hypotheses ++ length c.labels ∷ []
     → d.blocks ≡ c.blocks → c.labels ≡ labels past → length (labels (e ∷ past)) ≡ length (labels past) + 1
-    → hypothesis_moves (e ∷ past) ≡ item (length (labels past) ∷ []) ∷ hypothesis_moves past → HypothesesAgree past c → HypothesesAgree (e ∷ past) d
+    → hypothesis_moves (e ∷ past) ≡ item (length (labels past) ∷ []) ∷ noted ∷ hypothesis_moves past → HypothesesAgree past c → HypothesesAgree (e ∷ past) d
 unfolding stack IsBalanced
 hypotheses_stated e past c d du dh db cl el em a = record {
   sizes = more_sizes e past c d None [] du el refl a;
@@ -343,7 +345,7 @@ hypotheses_closed past c l cl a =
     let until : List (Option ℕ) = fold (ended_before n) c.until (drop m c.hypotheses) in
     let same : length c.labels ≡ n = ap length cl in
     let marks : m ∷ counts_of l.before ≡ (stack (hypothesis_moves past)).marks = sym (counts_push l.before l.last) ∙ ap counts_of (sym l.whole) ∙ a.counts in
-    subst (HypothesesAgree (closed ∷ past)) (sym (closing c l)) (subst (λ k. HypothesesAgree (closed ∷ past) (record c {
+    subst (HypothesesAgree (closed ∷ past)) (sym (closing c l)) (subst (λ k. HypothesesAgree (closed ∷ past) (record (closed_layers c) {
       table = fold ended c.table (drop l.last.endings c.endings);
       endings = take l.last.endings c.endings;
       until = fold (ended_before k) c.until (drop m c.hypotheses);

@@ -1,8 +1,9 @@
 mod Booleans
 mod Counting
+mod Gathered
 mod Closing
 mod Needed
-mod Active
+mod ActiveNow
 mod Loops
 mod Natural
 mod LookBack
@@ -14,6 +15,9 @@ mod Agreements
 mod Hypotheses
 mod Sound
 mod Whole
+mod Layering
+mod SymbolsThen
+mod Moments
 mod Held
 mod Kept
 mod Ordered
@@ -21,9 +25,7 @@ mod Placed
 mod Bridge
 mod Lawful
 mod Tabled
-mod Forms
 mod Long
 mod Described
 mod Phrases
-mod Folds
 pub mod ContentsLemmas

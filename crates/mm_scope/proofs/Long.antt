@@ -1,11 +1,10 @@
 -- A longer file is judged by its first bytes.
-use Rattle.std.proofs.Common.{◌≡◌, ◌≤◌, ℕ, suc, Bool, true, false, ◌&&◌, List, Option, None, Some, length, take, nat_lt, position, Result, Ok, Err, is_ok, refl, sym, ap, ◌∙◌, arith}
+use Rattle.std.proofs.Common.{◌≡◌, ℕ, suc, Bool, true, false, List, Option, None, Some, length, take, nat_lt, position, Result, Ok, Err, is_ok, refl, ap, ◌∙◌, arith}
 use Rattle.std.proofs.lemmas.Grind.{common_steps}
 use Rattle.std.proofs.lemmas.Bool.{false≢true}
 use Rattle.mm_tokens.specs.Bytes.{is_bad}
 use Rattle.mm_tokens.specs.Pieces.{pieces_of, open_in}
-use Rattle.mm_scope.specs.Built.{has_built_form}
-use Rattle.mm_scope.specs.Contents.{is_read, is_built}
+use Rattle.mm_scope.specs.Contents.{is_read}
 use Rattle.mm_scope.specs.Databases.{database_of, read_by, at_the_end, nothing_read}
 use Rattle.mm_scope.specs.Events.{Event, put}
 use Rattle.mm_scope.specs.Judged.{is_long, judged, clean, most_bytes}
@@ -16,9 +15,6 @@ use Rattle.mm_scope.specs.declared.fault.ReadFault.{ReadFault}
 
 pub take_twice : {A : Type 0} (k : ℕ) (l : List A) → take k (take k l) ≡ take k l
 take_twice k l = grind (arith, common_steps)
-
-pub take_whole : {A : Type 0} (k : ℕ) (l : List A) → length l ≤ k → take k l ≡ l
-take_whole k l h = grind (arith, common_steps)
 
 more_left : {A : Type 0} (k m : ℕ) (l : List A) → m ≡ suc k → nat_lt k (length (take m l)) ≡ nat_lt k (length l)
 more_left k m l e = grind (arith, common_steps, e)
@@ -44,16 +40,3 @@ unfolding is_read database_of
 long_refused bytes e =
     after_refused (read_from put look_back (clean (judged bytes)) nothing_read (pieces_of (clean (judged bytes)))) _
     (λ s. end_refused s (position is_bad (judged bytes)) (is_long bytes) (open_in (pieces_of (clean (judged bytes)))) e)
-
-short : (k m n : ℕ) → m ≡ suc k → nat_lt k n ≡ false → n ≤ m
-short k m n e h = grind (arith, e)
-
-built_by : (bytes : List ℕ) (long : Bool) → is_long bytes ≡ long → is_built (take 134217729 bytes) ≡ is_built bytes
-unfolding is_built is_read
-built_by bytes true e =
-    ap (λ b. b && has_built_form (take 134217729 bytes)) (ap is_ok (same_database bytes) ∙ long_refused bytes e)
-    ∙ sym (ap (λ b. b && has_built_form bytes) (long_refused bytes e))
-built_by bytes false e = ap is_built (take_whole 134217729 bytes (short most_bytes 134217729 (length bytes) refl e))
-
-pub same_built : (bytes : List ℕ) → is_built (take 134217729 bytes) ≡ is_built bytes
-same_built bytes = built_by bytes (is_long bytes) refl

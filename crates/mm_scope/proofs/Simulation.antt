@@ -4,13 +4,14 @@ use Rattle.std.proofs.lemmas.Grind.{common_steps}
 use Rattle.std.proofs.Math.ListN.{length-set}
 use Rattle.std.specs.List.{list_any}
 use Rattle.std.specs.Str.{bytes_eq}
-use Rattle.mm_scope.specs.Contexts.{Context, add_to, answers, close, ended}
+use Rattle.mm_scope.specs.Contexts.{Context, add_to, answers, close, closed_layers, ended}
 use Rattle.mm_names.specs.Standings.{Standings}
 use Rattle.mm_names.specs.Tables.{standing_at}
 use Rattle.mm_scope.specs.Until.{ended_before}
 use Rattle.mm_scope.specs.Events.{Event, opened, closed, symbols, labels, statements, open_blocks}
 use Rattle.mm_scope.specs.Looks.{look_back, known_as, moves, constants, is_active_of, is_floated_of}
-use Rattle.mm_scope.specs.Moves.{stack, pop, in_force, IsBalanced}
+use Rattle.mm_layers.specs.Moves.{in_force}
+use Rattle.mm_scope.specs.Moves.{stack, pop, IsBalanced}
 use Rattle.mm_scope.specs.declared.ending.Ending.{Ending}
 use Rattle.mm_scope.specs.declared.ending.Ending.TheVariants.{Active, Floated}
 use Rattle.mm_scope.specs.declared.ending.Block.{Block}
@@ -114,7 +115,7 @@ before_there : (bs : List Block) (b : Block) → take (length (bs ++ b ∷ []) -
 before_there bs b = grind (arith, common_steps, length-append bs (b ∷ []))
 
 -- closing a block, by its last
-pub closing : (c : Context) (l : Last c.blocks) → add_to c closed ≡ record c {
+pub closing : (c : Context) (l : Last c.blocks) → add_to c closed ≡ record (closed_layers c) {
   table = fold ended c.table (drop l.last.endings c.endings);
   endings = take l.last.endings c.endings;
   until = fold (ended_before (length c.labels)) c.until (drop l.last.hypotheses c.hypotheses);
@@ -125,7 +126,7 @@ unfolding add_to
 closing c l =
     let there : slice_get c.blocks (length c.blocks - 1) ≡ Some l.last = rw l.whole (last_there l.before l.last) in
     let rest : take (length c.blocks - 1) c.blocks ≡ l.before = rw l.whole (before_there l.before l.last) in
-    ap (close c) there ∙ ap (λ bs. record c { table = fold ended c.table (drop l.last.endings c.endings); endings = take l.last.endings c.endings; until = fold (ended_before (length c.labels)) c.until (drop l.last.hypotheses c.hypotheses); hypotheses = take l.last.hypotheses c.hypotheses; blocks = bs }) rest
+    ap (close (closed_layers c)) there ∙ ap (λ bs. record (closed_layers c) { table = fold ended c.table (drop l.last.endings c.endings); endings = take l.last.endings c.endings; until = fold (ended_before (length c.labels)) c.until (drop l.last.hypotheses c.hypotheses); hypotheses = take l.last.hypotheses c.hypotheses; blocks = bs }) rest
 
 texts_ended : (es : List Ending) (t : Standings) → (fold ended t es).texts ≡ t.texts
 texts_ended [] t = refl

@@ -1,29 +1,28 @@
 -- The tables of a database that was read.
-use Rattle.std.proofs.Common.{◌≡◌, ◌<◌, ◌≤◌, ℕ, Bool, true, false, ◌&&◌, List, [], ◌∷◌, Option, None, Some, length, position, nat_eq, Result, Ok, Err, is_ok, sym, ap, ◌∙◌, subst, arith}
+use Rattle.std.proofs.Common.{◌≡◌, ◌<◌, ◌≤◌, ℕ, Bool, true, false, List, [], ◌∷◌, Option, None, Some, length, position, slice_get, slice_index, nat_eq, Result, Ok, Err, is_ok, sym, ap, ◌∙◌, subst, arith}
 use Rattle.std.proofs.lemmas.List.{length-take}
 use Rattle.std.specs.List.{list_any}
 use Rattle.mm_tokens.specs.Bytes.{is_bad}
 use Rattle.mm_tokens.specs.Pieces.{pieces_of, open_in}
-use Rattle.mm_scope.specs.Answered.{Refuses, not_yet}
-use Rattle.mm_scope.specs.Built.{has_built_form}
+use Rattle.mm_names.specs.Tables.{standing_at}
 use Rattle.mm_scope.specs.ByTables.{tables_of}
-use Rattle.mm_scope.specs.Contents.{events_in, events_of, is_read, is_built, labels_of, statements_of, symbols_of, active_at, past_before, IsSound}
-use Rattle.mm_scope.specs.Contexts.{Context, Fails, context_of, state_of}
+use Rattle.mm_scope.specs.Contents.{events_in, events_of, is_read, labels_of, statements_of, symbols_of, active_at, variables_at, distinct_at, past_before, IsSound}
+use Rattle.mm_scope.specs.Contexts.{Context, context_of, state_of}
 use Rattle.mm_scope.specs.Databases.{nothing_read, unless_open, at_the_end, read_by, database_of}
-use Rattle.mm_scope.specs.Events.{Event, put, symbols, labels, statements, active_hypotheses, open_blocks}
+use Rattle.mm_scope.specs.Events.{Event, put, symbols, labels, statements, active_hypotheses, active_variables, active_distinct, open_blocks}
 use Rattle.mm_scope.specs.Judged.{is_long, judged, clean, before_bad}
-use Rattle.mm_scope.specs.Keeps.{Keeps}
-use Rattle.mm_scope.specs.Looks.{look_back}
+use Rattle.mm_scope.specs.Keeps.{Keeps, Recalls, KeepsMoments}
+use Rattle.mm_scope.specs.Looks.{look_back, constants}
 use Rattle.mm_scope.specs.Reading.{after, read_from}
 use Rattle.mm_scope.specs.Steps.{State}
 use Rattle.mm_scope.specs.Until.{is_active_by}
 use Rattle.mm_scope.specs.declared.fault.ReadFault.{ReadFault}
-use Rattle.mm_scope.specs.declared.fault.ReadFault.TheVariants as fault
 use Rattle.mm_scope.specs.declared.mode.Mode.{Mode}
 use Rattle.mm_scope.specs.declared.mode.Mode.TheVariants as mode
 use Rattle.mm_scope.specs.declared.reader.Reader.{Reader}
 use Rattle.mm_scope.proofs.Bridge.{read_matches}
 use Rattle.mm_scope.proofs.Held.{Held}
+use Rattle.mm_scope.proofs.Moments.{distinct_moments, distinct_then, hypothesis_moments, hypothesis_then, variable_moments, variable_then, known_moments, known_then}
 use Rattle.mm_scope.proofs.Ordered.{ordered}
 use Rattle.mm_scope.proofs.Placed.{ProofsPlaced, Placed, AllPlaced, placed_read, all_placed}
 use Rattle.mm_scope.proofs.Sound.{StatementSound}
@@ -82,6 +81,12 @@ module _ (bytes : List ℕ) (past : List Event) (e : database_of bytes ≡ Ok pa
   unfolding symbols_of
   symbols_kept = ap (λ x. x.table.texts) same ∙ held.agrees.texts ∙ ap symbols (sym events)
 
+  sizes : length c.table.standings ≡ length c.table.texts
+  sizes = ap (λ x. length x.table.standings) same ∙ held.agrees.sizes ∙ sym (ap (λ x. length x.table.texts) same)
+
+  constants_kept : (n : ℕ) → (standing_at c.table n).constant ≡ list_any (nat_eq n) (constants (events_of bytes))
+  constants_kept n = ap (λ x. (standing_at x.table n).constant) same ∙ held.agrees.constant_flags n ∙ ap (λ p. list_any (nat_eq n) (constants p)) (sym events)
+
   labels_kept : c.labels ≡ labels_of bytes
   unfolding labels_of
   labels_kept = ap (λ x. x.labels) same ∙ held.agrees.labelled ∙ ap labels (sym events)
@@ -102,6 +107,38 @@ module _ (bytes : List ℕ) (past : List Event) (e : database_of bytes ≡ Ok pa
   active id at small =
       ap (λ p. list_any (nat_eq id) (active_hypotheses (past_before at p))) events ∙ held.hypotheses.was id at (subst (λ ls. at < length ls) labels_there small)
       ∙ ap (λ x. is_active_by x.until id at) (sym same)
+
+  parted : Recalls c.partings (length (labels_of bytes)) (distinct_at bytes)
+  unfolding distinct_at
+  parted = record {
+    noted = ap (λ l. length l.moments) (ap (λ x. x.partings) same ∙ held.layers.partings) ∙ distinct_moments past ∙ sym (ap length labels_there);
+    each = λ k small. ap (λ l. slice_get l.moments k) (ap (λ x. x.partings) same ∙ held.layers.partings)
+        ∙ distinct_then k past (subst (λ ls. k < length ls) labels_there small) ∙ ap (λ p. Some (active_distinct (past_before k p))) (sym events);
+  }
+
+  hypotheses : Recalls c.actives (length (labels_of bytes)) (active_at bytes)
+  unfolding active_at
+  hypotheses = record {
+    noted = ap (λ l. length l.moments) (ap (λ x. x.actives) same ∙ held.layers.actives) ∙ hypothesis_moments past ∙ sym (ap length labels_there);
+    each = λ k small. ap (λ l. slice_get l.moments k) (ap (λ x. x.actives) same ∙ held.layers.actives)
+        ∙ hypothesis_then k past (subst (λ ls. k < length ls) labels_there small) ∙ ap (λ p. Some (active_hypotheses (past_before k p))) (sym events);
+  }
+
+  variables_kept : Recalls c.variables (length (labels_of bytes)) (variables_at bytes)
+  unfolding variables_at
+  variables_kept = record {
+    noted = ap (λ l. length l.moments) (ap (λ x. x.variables) same ∙ held.layers.variables) ∙ variable_moments past ∙ sym (ap length labels_there);
+    each = λ k small. ap (λ l. slice_get l.moments k) (ap (λ x. x.variables) same ∙ held.layers.variables)
+        ∙ variable_then k past (subst (λ ls. k < length ls) labels_there small) ∙ ap (λ p. Some (active_variables (past_before k p))) (sym events);
+  }
+
+  known_counted : length c.known ≡ length (labels_of bytes)
+  known_counted = ap length (ap (λ x. x.known) same ∙ held.layers.known) ∙ known_moments past ∙ sym (ap length labels_there)
+
+  known_counts : (id : ℕ) → id < length (labels_of bytes) → slice_index c.known id ≡ length (symbols (past_before id (events_of bytes)))
+  known_counts id small =
+      ap (λ ks. slice_index ks id) (ap (λ x. x.known) same ∙ held.layers.known) ∙ known_then id past (subst (λ ls. id < length ls) labels_there small)
+      ∙ ap (λ p. length (symbols (past_before id p))) (sym events)
 
   until_kept : length c.until ≡ length (labels_of bytes)
   until_kept = ap (λ x. length x.until) same ∙ held.hypotheses.sizes ∙ sym (ap length labels_there)
@@ -125,12 +162,14 @@ module _ (bytes : List ℕ) (past : List Event) (e : database_of bytes ≡ Ok pa
       }
 
 -- so a database may keep the tables of the reader
-pub keeps : (bytes : List ℕ) (r : Reader) → tables_of bytes ≡ Ok (state_of r) → Keeps bytes r.symbols.texts r.labels r.statements.items r.until.items
+pub keeps : (bytes : List ℕ) (r : Reader) → tables_of bytes ≡ Ok (state_of r) → Keeps bytes r.symbols r.labels r.statements.items r.until.items
 keeps bytes r e =
     let m = read_matches bytes (state_of r) e in
     record {
       read = read bytes m.0 m.1 (context_of r) m.2 m.3;
       symbols_kept = symbols_kept bytes m.0 m.1 (context_of r) m.2 m.3;
+      sizes = sizes bytes m.0 m.1 (context_of r) m.2 m.3;
+      constants_kept = constants_kept bytes m.0 m.1 (context_of r) m.2 m.3;
       labels_kept = labels_kept bytes m.0 m.1 (context_of r) m.2 m.3;
       statements_kept = statements_kept bytes m.0 m.1 (context_of r) m.2 m.3;
       active = λ id at own small. active bytes m.0 m.1 (context_of r) m.2 m.3 id at small;
@@ -139,19 +178,13 @@ keeps bytes r e =
       sound = sound bytes m.0 m.1 (context_of r) m.2 m.3;
     }
 
--- a fault is a refusal
-unread : (bytes : List ℕ) (e : ReadFault) → database_of bytes ≡ Err e → is_built bytes ≡ false
-unfolding is_built is_read
-unread bytes e h = ap (λ r. is_ok r && has_built_form bytes) h
-
-pub refused : (bytes : List ℕ) (e : ReadFault) → Fails e (database_of bytes) → Refuses bytes (not_yet e)
-refused bytes fault.Memory h = tt
-refused bytes e h = unread bytes e h
-
-pub built : (bytes : List ℕ) → is_read bytes ≡ true → has_built_form bytes ≡ true → is_built bytes ≡ true
-unfolding is_built
-built bytes e f = ap (λ b. b && has_built_form bytes) e ∙ f
-
-pub not_built : (bytes : List ℕ) → is_read bytes ≡ true → has_built_form bytes ≡ false → is_built bytes ≡ false
-unfolding is_built
-not_built bytes e f = ap (λ b. b && has_built_form bytes) e ∙ f
+pub keeps_moments : (bytes : List ℕ) (r : Reader) → tables_of bytes ≡ Ok (state_of r) → KeepsMoments bytes r.partings r.actives r.variables r.known.items
+keeps_moments bytes r e =
+    let m = read_matches bytes (state_of r) e in
+    record {
+      parted = parted bytes m.0 m.1 (context_of r) m.2 m.3;
+      hypotheses = hypotheses bytes m.0 m.1 (context_of r) m.2 m.3;
+      variables_kept = variables_kept bytes m.0 m.1 (context_of r) m.2 m.3;
+      counted = known_counted bytes m.0 m.1 (context_of r) m.2 m.3;
+      counts = known_counts bytes m.0 m.1 (context_of r) m.2 m.3;
+    }

@@ -1,11 +1,16 @@
 -- What a database says, as functions of its bytes.
-use Rattle.std.specs.Prelude.{◌≡◌, ◌≤◌, ◌<◌, ℕ, Bool, true, ◌&&◌, List, [], Option, None, Some, Result, Ok, Err, is_ok, length, position, slice_index_or, count_by, All, nat_le, ◌∷◌, if◌then◌else◌}
+use Rattle.std.specs.Prelude.{◌≡◌, ◌≤◌, ◌<◌, ℕ, Bool, true, not, ◌&&◌, ◌||◌, ◌==◌, List, [], Option, None, Some, Result, Ok, Err, is_ok, length, position, slice_index_or, filter, filter_map, count_by, All, nat_le, nat_lt, ◌∷◌, ◌++◌, if◌then◌else◌}
+use Rattle.std.specs.List.{list_any, range_with_len}
 use Rattle.std.specs.Str.{bytes_eq}
+use Rattle.mm_distinct.specs.Distinct.{pairs_among}
+use Rattle.mm_names.specs.Marked.{is_marked}
 use Rattle.mm_tokens.specs.declared.pieces.Span.{Span}
-use Rattle.mm_scope.specs.Built.{has_built_form}
 use Rattle.mm_scope.specs.Databases.{database_of}
-use Rattle.mm_scope.specs.Events.{Event, symbols, labels, statements, active_hypotheses}
-use Rattle.mm_scope.specs.Stated.{Stated, no_statement, is_hypothesis, is_same_kind}
+use Rattle.mm_scope.specs.Events.{Event, symbols, labels, statements, active_hypotheses, active_variables, active_distinct}
+use Rattle.mm_scope.specs.Looks.{constants, look_back}
+use Rattle.mm_scope.specs.Mandatory.{variables_of}
+use Rattle.mm_scope.specs.Stated.{Stated, no_statement, is_hypothesis, is_same_kind, typecode_of}
+use Rattle.mm_scope.specs.Steps.{Answers}
 use Rattle.mm_scope.specs.declared.statement.Kind.{Kind}
 use Rattle.mm_scope.specs.declared.statement.Kind.TheVariants as kind
 use Rattle.mm_scope.specs.declared.fault.ReadFault.{ReadFault}
@@ -20,10 +25,6 @@ events_of bytes = events_in (database_of bytes)
 
 unfoldable pub is_read : List ℕ → Bool
 is_read bytes = is_ok (database_of bytes)
-
--- whether it is read and has the form that is read so far
-unfoldable pub is_built : List ℕ → Bool
-is_built bytes = is_read bytes && has_built_form bytes
 
 -- the labels in order; the id of a labelled statement is its place, counted from 0
 unfoldable pub labels_of : List ℕ → List (List ℕ)
@@ -47,6 +48,62 @@ past_before id (e ∷ past) = if nat_le (length (labels (e ∷ past))) id then e
 -- the ids of the hypotheses that are active at a labelled statement, in order
 unfoldable pub active_at : List ℕ → ℕ → List ℕ
 active_at bytes id = active_hypotheses (past_before id (events_of bytes))
+
+-- the variables that are active at a labelled statement, by number
+unfoldable pub variables_at : List ℕ → ℕ → List ℕ
+variables_at bytes id = active_variables (past_before id (events_of bytes))
+
+-- the groups of variables that the active `$d` part at a labelled statement, in order
+unfoldable pub distinct_at : List ℕ → ℕ → List (List ℕ)
+distinct_at bytes id = active_distinct (past_before id (events_of bytes))
+
+-- the variables of the active `$f` in order, and then the other active ones by number
+abbrev pub ordered_variables : List ℕ → List ℕ → ℕ → List ℕ
+ordered_variables floated active count =
+    floated
+    ++ filter (λ n. list_any (λ m. n == m) active && not (list_any (λ m. n == m) floated)) (range_with_len 0 count)
+
+abbrev pub ordered_at : List ℕ → ℕ → List ℕ
+ordered_at bytes id =
+    ordered_variables (variables_of (statements_of bytes) (active_at bytes id)) (variables_at bytes id) (length (symbols_of bytes))
+
+-- of an assertion the ids of its active hypotheses, in order; none of a hypothesis
+abbrev pub active_of : List ℕ → ℕ → List ℕ
+active_of bytes id = if is_hypothesis (stated_at bytes id).kind then [] else active_at bytes id
+
+-- of an assertion the pairs of active variables that must differ, in order; none of a hypothesis
+abbrev pub active_pairs_of : List ℕ → ℕ → List (ℕ × ℕ)
+active_pairs_of bytes id =
+    if is_hypothesis (stated_at bytes id).kind then []
+    else pairs_among (distinct_at bytes id) (ordered_at bytes id)
+
+-- whether a symbol is no constant
+abbrev pub is_variable_of : List ℕ → ℕ → Bool
+is_variable_of bytes s = not (list_any (λ n. s == n) (constants (events_of bytes)))
+
+-- the number of a symbol that is active
+abbrev pub symbol_by : Answers → Option ℕ
+symbol_by a = if (a.constant || a.active) then Some a.number else None
+
+-- the number of the symbol with a text that is active at a labelled statement
+unfoldable pub active_symbol_at : List ℕ → ℕ → List ℕ → Option ℕ
+active_symbol_at bytes id text = symbol_by (look_back (past_before id (events_of bytes)) text)
+
+-- whether a number was a symbol's before a labelled statement, and is a constant or a variable active there
+abbrev pub is_active_number : List ℕ → ℕ → ℕ → Bool → Bool
+is_active_number bytes id n constant =
+    nat_lt n (length (symbols (past_before id (events_of bytes)))) && (constant || list_any (λ m. n == m) (variables_at bytes id))
+
+abbrev pub is_typecode_among : List Stated → ℕ → Bool
+is_typecode_among statements s = list_any (λ n. s == n) (filter_map typecode_of statements)
+
+-- the marks are on the typecodes of the `$f` among statements
+abbrev pub AreTypecodes : List Bool → List Stated → Type 0
+AreTypecodes marks statements = (n : ℕ) → is_marked marks n ≡ is_typecode_among statements n
+
+-- whether a symbol is the typecode of some `$f`
+abbrev pub is_typecode_of : List ℕ → ℕ → Bool
+is_typecode_of bytes s = is_typecode_among (statements_of bytes) s
 
 abbrev pub find_label : List ℕ → List ℕ → Option ℕ
 find_label bytes label = position (bytes_eq label) (labels_of bytes)

@@ -3,12 +3,14 @@ use Rattle.std.specs.Prelude.{◌≡◌, ℕ, ◌-◌, true, false, not, ◌==�
 use Rattle.std.specs.List.{list_any}
 use Rattle.std.specs.Str.{bytes_eq}
 use Rattle.mm_tokens.specs.declared.pieces.Span.{Span}
+use Rattle.mm_layers.specs.Layered.{Layered}
+use Rattle.mm_layers.specs.Layered as layers
 use Rattle.mm_names.specs.Texts.{with_text}
 use Rattle.mm_scope.specs.Events.{Event, constant, variable, float, essential, asserted, theorem, distinct, opened, closed}
 use Rattle.mm_scope.specs.Keeps.{stated}
-use Rattle.mm_scope.specs.Mandatory.{mandatory_of}
+use Rattle.mm_scope.specs.Mandatory.{an_assertion}
 use Rattle.mm_names.specs.Standings.{Standings}
-use Rattle.mm_scope.specs.Stated.{Stated}
+use Rattle.mm_scope.specs.Stated.{Stated, a_hypothesis}
 use Rattle.mm_scope.specs.Steps.{Answers, State}
 use Rattle.mm_names.specs.Tables.{nothing, found_in, with_symbol, with_state, standing_at}
 use Rattle.mm_scope.specs.Until.{ended_before}
@@ -31,6 +33,10 @@ pub record Context : Type 0 where
   pub endings : List Ending
   pub hypotheses : List ℕ
   pub blocks : List Block
+  pub partings : Layered (List ℕ)
+  pub actives : Layered ℕ
+  pub variables : Layered ℕ
+  pub known : List ℕ
 
 abbrev pub context_of : Reader → Context
 context_of r = record {
@@ -41,6 +47,10 @@ context_of r = record {
   endings = r.endings.items;
   hypotheses = r.hypotheses.items;
   blocks = r.blocks.items;
+  partings = r.partings;
+  actives = r.actives;
+  variables = r.variables;
+  known = r.known.items;
 }
 
 abbrev pub state_of : Reader → State Context
@@ -74,28 +84,44 @@ activated s = record s { active = true }
 abbrev pub with_float : Standing → Standing
 with_float s = record s { floated = true }
 
+-- what is in force before the next labelled statement is noted
+abbrev pub noted_layers : Context → Context
+noted_layers c = record c {
+  partings = layers.marked c.partings;
+  actives = layers.marked c.actives;
+  variables = layers.marked c.variables;
+  known = c.known ++ length c.table.texts ∷ [];
+}
+
 -- one labelled statement more, with its label and until when it is active
 abbrev pub with_statement : Context → List ℕ → Stated → Option ℕ → Context
-with_statement c l s u = record c {
+with_statement c l s u = record (noted_layers c) {
   labels = with_text c.labels l;
   statements = c.statements ++ s ∷ [];
   until = c.until ++ u ∷ [];
 }
 
 abbrev pub with_hypothesis : Context → List ℕ → Kind → List ℕ → Option Span → Context
-with_hypothesis c l k ss d = record (with_statement c l (record { kind = k; symbols = ss; mandatory = []; from = 0; to = 0; described = d }) None) {
+with_hypothesis c l k ss d = record (with_statement c l (a_hypothesis k ss d) None) {
   hypotheses = c.hypotheses ++ length c.labels ∷ [];
+  actives = layers.pushed (layers.marked c.actives) (length c.labels ∷ []);
 }
 
 abbrev pub with_assertion : Context → List ℕ → Kind → List ℕ → ℕ → ℕ → Option Span → Context
 with_assertion c l k ss from to d =
-    let needed : List ℕ = mandatory_of c.statements c.hypotheses ss in
-    with_statement c l (record { kind = k; symbols = ss; mandatory = needed; from = from; to = to; described = d }) (Some 0)
+    with_statement c l (an_assertion c.statements c.hypotheses c.partings.now k ss from to d) (Some 0)
 
 -- what an ending ends
 abbrev pub ended : Standings → Ending → Standings
 ended t (Active n) = with_state t n (record (standing_at t n) { active = false })
 ended t (Floated n) = with_state t n (record (standing_at t n) { floated = false })
+
+-- a block begins or ends for what is kept in layers
+abbrev pub begun_layers : Context → Context
+begun_layers c = record c { partings = layers.begun c.partings; actives = layers.begun c.actives; variables = layers.begun c.variables }
+
+abbrev pub closed_layers : Context → Context
+closed_layers c = record c { partings = layers.ended c.partings; actives = layers.ended c.actives; variables = layers.ended c.variables }
 
 abbrev pub close : Context → Option Block → Context
 close c None = c
@@ -114,6 +140,7 @@ add_to c (variable t n) =
     record c {
       table = if found.known then with_state c.table found.number (activated found.standing) else with_symbol c.table t (activated nothing);
       endings = c.endings ++ Active found.number ∷ [];
+      variables = layers.pushed c.variables (n ∷ []);
     }
 add_to c (float l ss s) =
     let v = slice_index ss 1 in
@@ -121,15 +148,16 @@ add_to c (float l ss s) =
 add_to c (essential l ss s) = with_hypothesis c l kind.Essential ss s
 add_to c (asserted l ss s) = with_assertion c l kind.Axiom ss 0 0 s
 add_to c (theorem l ss from to s) = with_assertion c l kind.Theorem ss from to s
-add_to c (distinct ss) = c
-add_to c (opened p) = record c { blocks = c.blocks ++ record { place = p; endings = length c.endings; hypotheses = length c.hypotheses } ∷ [] }
-add_to c closed = close c (slice_get c.blocks (length c.blocks - 1))
+add_to c (distinct ss) = record c { partings = layers.pushed c.partings (ss ∷ []) }
+add_to c (opened p) = record (begun_layers c) { blocks = c.blocks ++ record { place = p; endings = length c.endings; hypotheses = length c.hypotheses } ∷ [] }
+add_to c closed = close (closed_layers c) (slice_get c.blocks (length c.blocks - 1))
+
+abbrev pub noted : State Context → State Context
+noted s = record s { context = noted_layers s.context }
 
 -- the statement that is begun is done
-abbrev pub finished : State Context → Kind → List ℕ → Option ℕ → ℕ → ℕ → State Context
-finished s k ms u from to =
-    let d : Stated = record { kind = k; symbols = s.buffer; mandatory = ms; from = from; to = to; described = s.described } in
-    record s { context = with_statement s.context s.label d u; mode = mode.Start; buffer = [] }
+abbrev pub finished : State Context → Stated → Option ℕ → State Context
+finished s d u = record s { context = with_statement s.context s.label d u; mode = mode.Start; buffer = [] }
 
 abbrev pub finished_hypothesis : State Context → Kind → State Context
 finished_hypothesis s k = record s { context = with_hypothesis s.context s.label k s.buffer s.described; mode = mode.Start; buffer = [] }
@@ -138,7 +166,7 @@ abbrev pub finished_assertion : State Context → Kind → ℕ → ℕ → State
 finished_assertion s k from to = record s { context = with_assertion s.context s.label k s.buffer from to s.described; mode = mode.Start; buffer = [] }
 
 abbrev pub closed_block : State Context → State Context
-closed_block s = record s { context = close s.context (slice_get s.context.blocks (length s.context.blocks - 1)) }
+closed_block s = record s { context = close (closed_layers s.context) (slice_get s.context.blocks (length s.context.blocks - 1)) }
 
 -- what a call left and returned is what reading gives, unless memory ran out
 abbrev pub Fails : {A : Type 0} → ReadFault → Result A ReadFault → Type 0
@@ -169,6 +197,10 @@ empty_state = record {
     endings = [];
     hypotheses = [];
     blocks = [];
+    partings = layers.nothing;
+    actives = layers.nothing;
+    variables = layers.nothing;
+    known = [];
   };
   mode = mode.Start;
   begun = 0;

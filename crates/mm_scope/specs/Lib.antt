@@ -1,4 +1,3 @@
-pub mod Words
 pub mod Stated
 pub mod Mandatory
 pub mod Moves
@@ -9,12 +8,11 @@ pub mod Judged
 pub mod Looks
 pub mod Laws
 pub mod Databases
-pub mod Built
 pub mod Contents
 pub mod Until
 pub mod Keeps
 pub mod Contexts
 pub mod ByTables
 pub mod Answered
-pub mod Folding
+pub mod Faults
 pub mod Description

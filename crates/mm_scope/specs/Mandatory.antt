@@ -1,7 +1,9 @@
--- The mandatory hypotheses of an assertion (Metamath book, section 4.1.3).
-use Rattle.std.specs.Prelude.{ℕ, Bool, true, false, ◌==◌, List, [], ◌++◌, slice_index, slice_index_or, filter, flat_map, if◌then◌else◌}
+-- The mandatory hypotheses and pairs of an assertion (Metamath book, sections 4.1.3 and 4.2.2).
+use Rattle.std.specs.Prelude.{ℕ, Bool, true, false, ◌==◌, List, [], ◌++◌, Option, slice_index, slice_index_or, filter, filter_map, flat_map, if◌then◌else◌}
 use Rattle.std.specs.List.{list_any}
-use Rattle.mm_scope.specs.Stated.{Stated, no_statement, is_essential}
+use Rattle.mm_tokens.specs.declared.pieces.Span.{Span}
+use Rattle.mm_distinct.specs.Distinct.{pairs_among}
+use Rattle.mm_scope.specs.Stated.{Stated, no_statement, is_essential, variable_of}
 use Rattle.mm_scope.specs.declared.statement.Kind.{Kind}
 use Rattle.mm_scope.specs.declared.statement.Kind.TheVariants as kind
 
@@ -30,3 +32,21 @@ is_mandatory needed s = is_mandatory_by s.kind (list_any (λ n. slice_index s.sy
 unfoldable pub mandatory_of : List Stated → List ℕ → List ℕ → List ℕ
 mandatory_of statements active symbols =
     filter (λ id. is_mandatory (symbols_with statements active symbols) (statement_at statements id)) active
+
+-- the variables of the `$f` among statements, in order
+unfoldable pub variables_of : List Stated → List ℕ → List ℕ
+variables_of statements ids = filter_map (λ id. variable_of (statement_at statements id)) ids
+
+-- an assertion, where these hypotheses are active and these groups of variables are parted
+abbrev pub an_assertion : List Stated → List ℕ → List (List ℕ) → Kind → List ℕ → ℕ → ℕ → Option Span → Stated
+an_assertion statements active groups k symbols from to d =
+    let needed : List ℕ = mandatory_of statements active symbols in
+    record {
+      kind = k;
+      symbols = symbols;
+      mandatory = needed;
+      pairs = pairs_among groups (variables_of statements needed);
+      from = from;
+      to = to;
+      described = d;
+    }

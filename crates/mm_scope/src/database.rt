@@ -1,24 +1,30 @@
 //! A database that is read.
 
 ghost use Rattle.std.specs.List.{list_any};
-ghost use Rattle.std.specs.Prelude.{◌≡◌, ◌<◌, ◌==◌, ◌≤◌, ℕ, true, All, IfSome, Some, length, map, slice_get, count_by};
+ghost use Rattle.std.specs.Prelude.{◌≡◌, ◌<◌, ◌==◌, ◌≤◌, ℕ, true, All, IfOk, IfSome, Ok, Some, length, map, slice_get, count_by};
 ghost use Rattle.std.specs.Option.{option_map};
-ghost use Rattle.mm_scope.specs.Answered.{AnswersBuilt, AnswersRead, not_yet};
-ghost use Rattle.mm_scope.specs.Contents.{is_read, labels_of, statements_of, symbols_of, stated_at, active_at, find_label, count_kind, proof_span_of, IsSound};
+ghost use Rattle.mm_scope.specs.Answered.{AnswersRead};
+ghost use Rattle.mm_scope.specs.Contents.{is_read, labels_of, statements_of, symbols_of, stated_at, active_at, active_of, active_pairs_of, distinct_at, ordered_at, find_label, count_kind, is_variable_of, is_typecode_of, AreTypecodes, is_active_number, active_symbol_at, proof_span_of, IsSound};
 ghost use Rattle.mm_scope.specs.Keeps.{stated};
+ghost use Rattle.mm_scope.specs.ByTables.{tables_of};
+ghost use Rattle.mm_scope.specs.Contexts.{state_of};
 ghost use Rattle.mm_scope.specs.Until.{is_before};
 ghost use Rattle.mm_scope.specs.Stated.{is_hypothesis, is_same_kind};
 ghost use Rattle.mm_scope.specs.declared.statement.Kind.TheVariants.{Float};
 
-use crate::built::has_built_form;
 use crate::fault::ReadFault;
 use crate::file::read_file;
-use crate::frame::{Frame, Ids, Symbols};
+use crate::floated::typecodes_of;
+use crate::frame::{Active, ActivePairs, Frame, Ids, Pairs, Symbols};
+use crate::mandatory::variables_of;
 use crate::reader::Reader;
 use crate::statement::{Kind, Statement};
-use mm_names::Names;
+use crate::variables::ordered_variables;
+use mm_distinct::{Pair, Parted, Partings};
+use mm_layers::Layers;
+use mm_names::{Found, Marks, Names, SymbolTable};
 use mm_tokens::Span;
-use std::alloc::Global;
+use std::alloc::{AllocError, Global};
 use std::marker::Model;
 
 /// A labelled statement: its place among the labelled statements of a database, counted from 0.
@@ -33,10 +39,15 @@ pub struct Sym(pub u32);
 #[derive(Drop)]
 pub struct Database {
     bytes: Vec<u8>,
-    symbols: Names,
+    symbols: SymbolTable,
     labels: Names,
     statements: Vec<Statement>,
     until: Vec<Option<u32>>,
+    partings: Partings,
+    actives: Layers,
+    variables: Layers,
+    known: Vec<u32>,
+    typecodes: Marks,
 }
 
 impl Model for Database {
@@ -44,28 +55,25 @@ impl Model for Database {
 
     ghost Value = { List ℕ };
 
-    ghost use Rattle.mm_scope.specs.Keeps.{Keeps};
+    ghost use Rattle.mm_scope.specs.Keeps.{Keeps, KeepsMoments};
+    ghost use Rattle.mm_scope.specs.Contents.{AreTypecodes, statements_of};
 
     ghost view = { λ d. d.bytes.items };
 
-    ghost invariant = { λ d. Keeps d.bytes.items d.symbols d.labels d.statements.items d.until.items };
+    ghost invariant = { λ d. Keeps d.bytes.items d.symbols d.labels d.statements.items d.until.items × KeepsMoments d.bytes.items d.partings d.actives d.variables d.known.items × AreTypecodes d.typecodes (statements_of d.bytes.items) };
 }
 
 impl Database {
-    /// Reads a database. The bytes come back where it is refused: for want of memory, or as not yet read, which is
-    /// exactly where it has a fault or a form that is not read so far.
+    /// Reads a database. Where it is refused the bytes come back, with its first fault or for want of memory.
     pub fn read(alloc: Global, bytes: Vec<u8>) -> Result<Database, (Vec<u8>, ReadFault)>
-        ensures { AnswersBuilt bytes.items result }
+        ensures { AnswersRead bytes.items result }
     {
-        match read_whole(alloc, bytes) {
-            Ok(database) => {
-                if has_built_form(database.bytes()) {
-                    Ok(database)
-                } else {
-                    Err((database.into_bytes(), ReadFault::NotYetRead))
-                }
-            }
-            Err((bytes, fault)) => Err((bytes, not_yet(fault))),
+        match read_file(alloc, bytes.as_slice()) {
+            Ok(reader) => match typecodes_of(alloc, reader.statements.as_slice()) {
+                Ok(typecodes) => Ok(database_of(bytes, reader, typecodes)),
+                Err(_) => Err((bytes, ReadFault::Memory)),
+            },
+            Err(fault) => Err((bytes, fault)),
         }
     }
 
@@ -155,6 +163,9 @@ impl Database {
         requires { id.0 < length (labels_of self.now) }
         ensures mandatory { result.mandatory ≡ (stated_at self.now id.0).mandatory }
         ensures conclusion { result.conclusion ≡ (stated_at self.now id.0).symbols }
+        ensures pairs { result.pairs ≡ (stated_at self.now id.0).pairs }
+        ensures active { result.active ≡ active_of self.now id.0 }
+        ensures active_pairs { result.active_pairs ≡ active_pairs_of self.now id.0 }
         // The mandatory hypotheses are hypotheses, and earlier.
         ensures earlier { All (λ m. m < id.0) result.mandatory }
         ensures hypotheses { All (λ m. is_hypothesis (stated_at self.now m).kind ≡ true) result.mandatory }
@@ -170,7 +181,24 @@ impl Database {
             conclusion: Symbols {
                 items: statement.symbols.as_slice(),
             },
+            pairs: Pairs {
+                items: statement.pairs.as_slice(),
+            },
+            active: self.active(id),
+            active_pairs: ActivePairs { database: self, id },
         }
+    }
+
+    /// The active hypotheses of an assertion; none of a hypothesis.
+    fn active(&self, id: StmtId) -> Active<'_>
+        requires { id.0 < length (labels_of self.now) }
+        ensures { result ≡ active_of self.now id.0 }
+    {
+        let trail = match self.kind(id) {
+            Kind::Float | Kind::Essential => None,
+            Kind::Axiom | Kind::Theorem => Some(self.actives.at(id.0)),
+        };
+        Active { trail }
     }
 
     /// Whether a hypothesis is active at a statement: it stands before it, and no block in which it stands is closed
@@ -187,7 +215,7 @@ impl Database {
     pub fn symbols(&self) -> u32
         ensures { result ≡ length (symbols_of self.now) }
     {
-        self.symbols.len() as u32
+        self.symbols.names().len() as u32
     }
 
     /// The text of a symbol.
@@ -195,42 +223,110 @@ impl Database {
         requires { symbol.0 < length (symbols_of self.now) }
         ensures { slice_get (symbols_of self.now) symbol.0 ≡ Some result.now }
     {
-        self.symbols.text(symbol.0 as usize)
+        self.symbols.names().text(symbol.0 as usize)
     }
-}
 
-/// Reads a database, whatever its form. The bytes come back with the first fault.
-fn read_whole(alloc: Global, bytes: Vec<u8>) -> Result<Database, (Vec<u8>, ReadFault)>
-    ensures { AnswersRead bytes.items result }
-{
-    match read_file(alloc, bytes.as_slice()) {
-        Ok(reader) => {
-            let Reader {
-                symbols,
-                labels,
-                statements,
-                until,
-                ..
-            } = reader;
-            Ok(Database {
-                bytes,
-                symbols: symbols.into_names(),
-                labels,
-                statements,
-                until,
-            })
+    /// Whether a symbol is a variable, and no constant.
+    pub fn is_variable(&self, symbol: Sym) -> bool
+        ensures { result ≡ is_variable_of self.now symbol.0 }
+    {
+        !self.symbols.standing(symbol.0).constant
+    }
+
+    /// Whether a symbol is the typecode of some `$f`.
+    pub fn typecode_of_float(&self, symbol: Sym) -> bool
+        ensures { result ≡ is_typecode_of self.now symbol.0 }
+    {
+        self.typecodes.is_marked(symbol.0)
+    }
+
+    /// Whether what was found of a text was known before a statement, and is a constant or a variable that is active there.
+    fn is_active_symbol(&self, at: StmtId, found: Found) -> bool
+        requires { at.0 < length (labels_of self.now) }
+        ensures { result ≡ is_active_number self.now at.0 found.number found.standing.constant }
+    {
+        found.number < self.known[at.0 as usize]
+            && (found.standing.constant || self.variables.at(at.0).contains(found.number))
+    }
+
+    /// The symbol with a text; `None` where no symbol with it is active at a statement: a constant is from its declaration
+    /// on, a variable to the end of the block in which it is declared (Metamath book, section 4.2.8).
+    pub fn active_symbol(&self, at: StmtId, text: &[u8]) -> Option<Sym>
+        requires { at.0 < length (labels_of self.now) }
+        ensures value { option_map (λ s. s.0) result ≡ active_symbol_at self.now at.0 text.now }
+        ensures own { IfSome result (λ s. s.0 < length (symbols_of self.now)) }
+    {
+        let found = self.symbols.find(text);
+        if self.is_active_symbol(at, found) {
+            Some(Sym(found.number))
+        } else {
+            None
         }
-        Err(fault) => Err((bytes, fault)),
+    }
+
+    /// The groups of variables that the active `$d` part at a statement (Metamath book, section 4.2.2).
+    pub fn parted(&self, alloc: Global, id: StmtId) -> Result<Parted, AllocError>
+        requires { id.0 < length (labels_of self.now) }
+        ensures { IfOk result (λ p. p ≡ distinct_at self.now id.0) }
+    {
+        self.partings.at(id.0).to_parted(alloc)
+    }
+
+    /// The variables that are active at a statement, in the order of its pairs.
+    fn ordered_variables(&self, alloc: Global, id: StmtId) -> Result<Vec<u32>, AllocError>
+        requires { id.0 < length (labels_of self.now) }
+        ensures { IfOk result (λ v. v.items ≡ ordered_at self.now id.0) }
+    {
+        let hypotheses = self.actives.at(id.0).to_vec(alloc)?;
+        let floated = variables_of(alloc, self.statements.as_slice(), hypotheses.as_slice())?;
+        let active = self.variables.at(id.0).to_vec(alloc)?;
+        ordered_variables(alloc, floated.as_slice(), active.as_slice(), self.symbols())
+    }
+
+    /// The pairs among the active variables of an assertion that must differ; none of a hypothesis.
+    pub(crate) fn active_pairs(&self, alloc: Global, id: StmtId) -> Result<Vec<Pair>, AllocError>
+        requires { id.0 < length (labels_of self.now) }
+        ensures { IfOk result (λ v. v.items ≡ active_pairs_of self.now id.0) }
+    {
+        match self.kind(id) {
+            Kind::Float | Kind::Essential => Ok(Vec::new(alloc)),
+            Kind::Axiom | Kind::Theorem => {
+                let variables = self.ordered_variables(alloc, id)?;
+                self.parted(alloc, id)?
+                    .pairs_among(alloc, variables.as_slice())
+            }
+        }
     }
 }
 
-/// A fault, as it is told so far.
-fn not_yet(fault: ReadFault) -> ReadFault
-    ensures { result ≡ not_yet fault }
+/// The database of what was read of the bytes.
+fn database_of(bytes: Vec<u8>, reader: Reader, typecodes: Marks) -> Database
+    requires tables { tables_of bytes.items ≡ Ok (state_of reader) }
+    requires typecodes { AreTypecodes typecodes (map stated reader.statements.items) }
+    ensures { result ≡ bytes.items }
 {
-    match fault {
-        ReadFault::Memory => ReadFault::Memory,
-        _ => ReadFault::NotYetRead,
+    let Reader {
+        symbols,
+        labels,
+        statements,
+        until,
+        partings,
+        actives,
+        variables,
+        known,
+        ..
+    } = reader;
+    Database {
+        bytes,
+        symbols,
+        labels,
+        statements,
+        until,
+        partings,
+        actives,
+        variables,
+        known,
+        typecodes,
     }
 }
 

@@ -1,6 +1,7 @@
 //! Why a database is not read.
 
 ghost use Rattle.std.specs.Prelude.{◌≡◌};
+ghost use Rattle.mm_scope.specs.Faults.{number_of, place_of};
 ghost use Rattle.mm_scope.specs.declared.fault.ReadFault.TheVariants.{Memory};
 
 use std::alloc::{AllocError, AllocFailed};
@@ -69,12 +70,69 @@ pub enum ReadFault {
     /// Database fault 21: a file, a statement or a label that is too long.
     #[error("too long at {0}")]
     TooLong(u64),
-    /// A database with a fault, or of a form that is not read yet.
-    #[error("not yet read")]
-    NotYetRead,
     /// Want of memory.
     #[error("out of memory")]
     Memory,
+}
+
+impl ReadFault {
+    /// The number of the database fault; 0 for want of memory, which is no fault of a database.
+    pub fn number(&self) -> u8
+        ensures { result ≡ number_of self.now }
+    {
+        match *self {
+            ReadFault::BadByte(_) => 1,
+            ReadFault::CommentOpen(_) => 2,
+            ReadFault::UnknownKeyword(_) => 4,
+            ReadFault::FileInclusion(_) => 5,
+            ReadFault::BadLabel(_) => 6,
+            ReadFault::BadSymbol(_) => 7,
+            ReadFault::Redeclared(_) => 8,
+            ReadFault::NotActive(_) => 9,
+            ReadFault::ConstantInBlock(_) => 10,
+            ReadFault::LabelUsed(_) => 11,
+            ReadFault::LabelMissing(_) => 12,
+            ReadFault::LabelNotWanted(_) => 13,
+            ReadFault::WrongForm(_) => 14,
+            ReadFault::FloatRepeated(_) => 15,
+            ReadFault::NoFloat(_) => 16,
+            ReadFault::DistinctForm(_) => 17,
+            ReadFault::BlockNotOpen(_) => 18,
+            ReadFault::BlockOpen(_) => 19,
+            ReadFault::NotClosed(_) => 20,
+            ReadFault::TooLong(_) => 21,
+            ReadFault::Memory => 0,
+        }
+    }
+
+    /// Its place in the database, in bytes, counted from 0; 0 for want of memory.
+    pub fn place(&self) -> u64
+        ensures { result ≡ place_of self.now }
+    {
+        match *self {
+            ReadFault::BadByte(place)
+            | ReadFault::CommentOpen(place)
+            | ReadFault::UnknownKeyword(place)
+            | ReadFault::FileInclusion(place)
+            | ReadFault::BadLabel(place)
+            | ReadFault::BadSymbol(place)
+            | ReadFault::Redeclared(place)
+            | ReadFault::NotActive(place)
+            | ReadFault::ConstantInBlock(place)
+            | ReadFault::LabelUsed(place)
+            | ReadFault::LabelMissing(place)
+            | ReadFault::LabelNotWanted(place)
+            | ReadFault::WrongForm(place)
+            | ReadFault::FloatRepeated(place)
+            | ReadFault::NoFloat(place)
+            | ReadFault::DistinctForm(place)
+            | ReadFault::BlockNotOpen(place)
+            | ReadFault::BlockOpen(place)
+            | ReadFault::NotClosed(place)
+            | ReadFault::TooLong(place) => place,
+            ReadFault::Memory => 0,
+        }
+    }
 }
 
 impl From<AllocError> for ReadFault {

@@ -3,13 +3,12 @@
 //! A database is a list of bytes; `Database::read` answers what it says, or its first fault (Metamath book, section 4.1).
 #![tactic(auto)]
 
-mod built;
 mod database;
 mod description;
 mod ending;
 mod fault;
 mod file;
-mod folding;
+mod floated;
 mod frame;
 mod laws;
 mod mandatory;
@@ -19,11 +18,11 @@ mod reading;
 mod statement;
 #[cfg(test)]
 mod tests;
-mod word;
+mod variables;
 
 pub use database::{Database, StmtId, Sym};
 pub use fault::ReadFault;
-pub use folding::white_space_folds;
-pub use frame::{Frame, Ids, Symbols};
+pub use frame::{Active, ActivePairs, Frame, Ids, Pairs, Symbols};
 pub use laws::{first_bytes_decide, labels_differ, symbols_are_declared};
+pub use mm_words::white_space_folds;
 pub use statement::Kind;

@@ -1,9 +1,10 @@
-//! The mandatory hypotheses of an assertion.
+//! The mandatory hypotheses of an assertion, and their variables.
 
 ghost use Rattle.std.specs.Prelude.{◌≡◌, ◌||◌, ◌==◌, ℕ, map, flat_map, filter, slice_index, OnOk, IfOk};
 ghost use Rattle.std.specs.List.{list_any};
 ghost use Rattle.mm_scope.specs.Keeps.{stated};
-ghost use Rattle.mm_scope.specs.Mandatory.{statement_at, essential_symbols, symbols_with, is_mandatory, is_mandatory_by, mandatory_of};
+ghost use Rattle.mm_scope.specs.Mandatory.{statement_at, essential_symbols, symbols_with, is_mandatory, is_mandatory_by, mandatory_of, variables_of};
+ghost use Rattle.mm_scope.specs.Stated.{variable_of};
 ghost use Rattle.mm_names.specs.Marked.{is_marked};
 
 use crate::statement::{Kind, Statement};
@@ -11,7 +12,7 @@ use mm_names::Marks;
 use std::alloc::{AllocError, Global};
 
 /// Marks each of the numbers.
-fn mark_all(marks: &mut Marks, numbers: &[u32]) -> Result<(), AllocError>
+pub fn mark_all(marks: &mut Marks, numbers: &[u32]) -> Result<(), AllocError>
     ensures { OnOk result ((n : ℕ) → is_marked marks.new n ≡ (is_marked marks.old n || list_any (λ m. n == m) numbers.now)) }
 {
     for number in numbers {
@@ -97,4 +98,29 @@ pub fn mandatory_of(
     mark_all(marks, symbols)?;
     mark_essentials(marks, statements, active)?;
     mandatory_marked(alloc, statements, marks, active)
+}
+
+/// The variable of a `$f`; none of another statement.
+fn variable_of(statements: &[Statement], id: u32) -> Option<u32>
+    ensures { result ≡ variable_of (statement_at (map stated statements.now) id) }
+{
+    let statement = statements.get(id as usize)?;
+    match statement.kind {
+        Kind::Float => statement.symbols.get(1).copied(),
+        _ => None,
+    }
+}
+
+/// The variables of the `$f` among statements, in order.
+#[tactic(auto, unfolding(crate::specs::Mandatory::variables_of))]
+pub fn variables_of(
+    alloc: Global,
+    statements: &[Statement],
+    ids: &[u32],
+) -> Result<Vec<u32>, AllocError>
+    ensures { IfOk result (λ v. v.items ≡ variables_of (map stated statements.now) ids.now) }
+{
+    ids.iter()
+        .filter_map(|id| variable_of(statements, *id))
+        .collect(alloc)
 }

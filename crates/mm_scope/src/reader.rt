@@ -1,22 +1,25 @@
 //! The reader: one token after another.
 
-ghost use Rattle.std.specs.Prelude.{◌≡◌, ◌<◌, ◌^◌, ◌==◌, [], not, fold, drop, take, Ok};
+ghost use Rattle.std.specs.Prelude.{◌≡◌, ◌<◌, ◌^◌, ◌==◌, [], ◌∷◌, ◌++◌, length, not, fold, drop, take, Ok, OnOk};
 ghost use Rattle.std.specs.List.{list_any};
 ghost use Rattle.std.specs.Str.{bytes_eq};
 ghost use Rattle.mm_names.specs.Tables.{found_in};
-ghost use Rattle.mm_scope.specs.Contexts.{Gives, state_of, context_of, answers, add_to, finished, finished_hypothesis, finished_assertion, ended, closed_block};
+ghost use Rattle.mm_scope.specs.Contexts.{Gives, state_of, context_of, answers, add_to, finished, finished_hypothesis, finished_assertion, ended, closed_block, noted};
+ghost use Rattle.mm_scope.specs.Keeps.{stated};
 ghost use Rattle.mm_scope.specs.Until.{ended_before};
 ghost use Rattle.mm_scope.specs.Steps.{is_full, a_label, a_constant, a_variable, a_float, a_symbol, a_distinct, at_text, at_end, at_proof, unlabelled, at_constants, labelled, at_open, at_close, step_by, begin, end_declaration, end_float, end_statement, end_distinct};
 ghost use Rattle.mm_scope.specs.Events.{essential, asserted};
 
 use crate::ending::{Block, Ending};
 use crate::fault::ReadFault;
-use crate::mandatory::mandatory_of;
+use crate::mandatory::{mandatory_of, variables_of};
 use crate::mode::Mode;
 use crate::statement::{Kind, Statement};
-use crate::word::{Word, is_bad_label, is_bad_symbol};
+use mm_distinct::Partings;
+use mm_layers::Layers;
 use mm_names::{Marks, NOTHING, Names, Standing, SymbolTable};
 use mm_tokens::Span;
+use mm_words::{Word, is_bad_label, is_bad_symbol};
 use std::alloc::Global;
 
 /// The longest statement, in symbols.
@@ -32,6 +35,10 @@ pub struct Reader {
     pub endings: Vec<Ending>,
     pub hypotheses: Vec<u32>,
     pub blocks: Vec<Block>,
+    pub partings: Partings,
+    pub actives: Layers,
+    pub variables: Layers,
+    pub known: Vec<u32>,
     pub mode: Mode,
     pub begun: u64,
     pub label: Vec<u8>,
@@ -190,6 +197,7 @@ impl Reader {
             )?;
         }
         self.endings.push(Ending::Active(found.number))?;
+        self.variables.push(found.number)?;
         self.buffer.push(found.number)?;
         Ok(())
     }
@@ -231,28 +239,30 @@ impl Reader {
         }
     }
 
+    /// What is in force before the next labelled statement is noted.
+    fn note(&mut self) -> Result<(), ReadFault>
+        ensures { Gives self.new result (Ok (noted (state_of self.old))) }
+    {
+        self.partings.note()?;
+        self.actives.note()?;
+        self.variables.note()?;
+        let known = self.symbols.names().len() as u32;
+        self.known.push(known)?;
+        Ok(())
+    }
+
     /// The statement that is begun is done.
     fn finish(
         &mut self,
         alloc: Global,
-        kind: Kind,
-        mandatory: Vec<u32>,
+        statement: Statement,
         until: Option<u32>,
-        from: u64,
-        to: u64,
     ) -> Result<(), ReadFault>
-        ensures { Gives self.new result (Ok (finished (state_of self.old) kind mandatory.items until from to)) }
+        ensures { Gives self.new result (Ok (finished (state_of self.old) (stated statement) until)) }
     {
+        self.note()?;
         self.labels.insert(alloc, self.label.as_slice())?;
-        let symbols = Vec::from_slice(alloc, self.buffer.as_slice())?;
-        self.statements.push(Statement {
-            kind,
-            symbols,
-            mandatory,
-            from,
-            to,
-            described: self.described,
-        })?;
+        self.statements.push(statement)?;
         self.until.push(until)?;
         self.buffer.clear();
         self.mode = Mode::Start;
@@ -264,8 +274,20 @@ impl Reader {
         ensures { Gives self.new result (Ok (finished_hypothesis (state_of self.old) kind)) }
     {
         let id = self.labels.len() as u32;
+        let symbols = Vec::from_slice(alloc, self.buffer.as_slice())?;
+        let statement = Statement {
+            kind,
+            symbols,
+            mandatory: Vec::new(alloc),
+            pairs: Vec::new(alloc),
+            from: 0,
+            to: 0,
+            described: self.described,
+        };
+        self.finish(alloc, statement, None)?;
         self.hypotheses.push(id)?;
-        self.finish(alloc, kind, Vec::new(alloc), None, 0, 0)
+        self.actives.push(id)?;
+        Ok(())
     }
 
     /// The assertion that is begun is done.
@@ -285,7 +307,19 @@ impl Reader {
             self.hypotheses.as_slice(),
             self.buffer.as_slice(),
         )?;
-        self.finish(alloc, kind, mandatory, Some(0), from, to)
+        let variables = variables_of(alloc, self.statements.as_slice(), mandatory.as_slice())?;
+        let pairs = self.partings.pairs_among(alloc, variables.as_slice())?;
+        let symbols = Vec::from_slice(alloc, self.buffer.as_slice())?;
+        let statement = Statement {
+            kind,
+            symbols,
+            mandatory,
+            pairs,
+            from,
+            to,
+            described: self.described,
+        };
+        self.finish(alloc, statement, Some(0))
     }
 
     /// `$=`.
@@ -342,12 +376,13 @@ impl Reader {
 
     /// The end of `$d`.
     #[tactic(auto, unfolding(crate::specs::Contexts::add_to))]
-    fn end_distinct(&mut self, place: u64) -> Result<(), ReadFault>
+    fn end_distinct(&mut self, alloc: Global, place: u64) -> Result<(), ReadFault>
         ensures { Gives self.new result (end_distinct add_to (state_of self.old) place) }
     {
         if self.buffer.len() < 2 {
             return Err(ReadFault::DistinctForm(place));
         }
+        self.partings.part(alloc, self.buffer.as_slice())?;
         self.mode = Mode::Start;
         self.buffer.clear();
         Ok(())
@@ -383,7 +418,7 @@ impl Reader {
         match self.mode {
             Mode::Start | Mode::Labelled | Mode::Theorem => Err(ReadFault::WrongForm(place)),
             Mode::Constants | Mode::Variables => self.end_declaration(place),
-            Mode::Distinct => self.end_distinct(place),
+            Mode::Distinct => self.end_distinct(alloc, place),
             Mode::Float => self.end_float(alloc, place),
             Mode::Essential => self.end_essential(alloc, place),
             Mode::Axiom => self.end_axiom(alloc, place),
@@ -469,6 +504,9 @@ impl Reader {
                     endings,
                     hypotheses,
                 })?;
+                self.partings.open()?;
+                self.actives.open()?;
+                self.variables.open()?;
                 Ok(())
             }
             Mode::Labelled => Err(ReadFault::LabelNotWanted(place)),
@@ -480,6 +518,9 @@ impl Reader {
     fn close(&mut self)
         ensures { state_of self.new ≡ closed_block (state_of self.old) }
     {
+        self.partings.close();
+        self.actives.close();
+        self.variables.close();
         if let Some(block) = self.blocks.pop() {
             end_from(&mut self.symbols, &mut self.endings, block.endings);
             let next = self.labels.len() as u32;

@@ -9,9 +9,11 @@ ghost use Rattle.mm_scope.specs.Reading.{after, read_from, step, without_comment
 use crate::fault::ReadFault;
 use crate::mode::Mode;
 use crate::reader::Reader;
-use crate::word::word_of;
+use mm_distinct::Partings;
+use mm_layers::Layers;
 use mm_names::{Marks, Names, SymbolTable};
 use mm_tokens::{Piece, Scanner, Token};
+use mm_words::word_of;
 use std::alloc::Global;
 
 /// A reader that has read nothing.
@@ -26,6 +28,10 @@ pub fn new_reader(alloc: Global) -> Reader
         endings: Vec::new(alloc),
         hypotheses: Vec::new(alloc),
         blocks: Vec::new(alloc),
+        partings: Partings::new(alloc),
+        actives: Layers::new(alloc),
+        variables: Layers::new(alloc),
+        known: Vec::new(alloc),
         mode: Mode::Start,
         begun: 0,
         label: Vec::new(alloc),

@@ -2,7 +2,6 @@
 
 use crate::database::{Database, StmtId, Sym};
 use crate::fault::ReadFault;
-use crate::file::read_file;
 use crate::statement::Kind;
 use mm_tokens::Span;
 use std::alloc::Global;
@@ -70,17 +69,15 @@ fn reads_an_empty_file(rt: HostRuntime) -> Result<(), Fail> {
 }
 
 #[test]
-fn hands_back_what_is_not_read_yet(rt: HostRuntime) -> Result<(), Fail> {
-    for text in [
-        b"${ ${ $} $}".as_slice(),
-        b"$c a $. $v x y $. $d x y $.".as_slice(),
-        b"${ $v x $. $}".as_slice(),
-        b"$c a $. t $p a $= ( ) A $.".as_slice(),
-        b"$c a $. $}".as_slice(),
+fn reads_each_form(rt: HostRuntime) -> Result<(), Fail> {
+    for (text, labelled) in [
+        (b"${ ${ $} $}".as_slice(), 0),
+        (b"$c a $. $v x y $. $d x y $.".as_slice(), 0),
+        (b"$c a $. t $p a $= ( ) A $.".as_slice(), 1),
+        (b"$c a $.\n${ $v x $. $}\n${ $v x $. $}\n".as_slice(), 0),
     ] {
-        let (bytes, fault) = refused(rt.alloc(), text)?;
-        assert_eq!(rt; bytes.as_slice(), text);
-        assert_eq!(rt; fault, ReadFault::NotYetRead);
+        let database = read(rt.alloc(), text)?;
+        assert_eq!(rt; database.count(), labelled);
     }
     Ok(())
 }
@@ -96,6 +93,10 @@ fn finds_the_first_fault(rt: HostRuntime) -> Result<(), Fail> {
         (b"a+b".as_slice(), ReadFault::BadLabel(0)),
         (b"$v x$ $.".as_slice(), ReadFault::BadSymbol(3)),
         (b"$c a a $.".as_slice(), ReadFault::Redeclared(5)),
+        (
+            b"$c a $.\n${ $v x $. $}\n$c x $.\n".as_slice(),
+            ReadFault::Redeclared(25),
+        ),
         (b"$c a $. l $a a b $.".as_slice(), ReadFault::NotActive(15)),
         (b"${ l $c".as_slice(), ReadFault::ConstantInBlock(5)),
         (b"$c a $. a".as_slice(), ReadFault::LabelUsed(8)),
@@ -115,13 +116,32 @@ fn finds_the_first_fault(rt: HostRuntime) -> Result<(), Fail> {
         (b"${ ${ $c".as_slice(), ReadFault::ConstantInBlock(6)),
         (b"${ ${".as_slice(), ReadFault::BlockOpen(3)),
         (b"$c a $. l $a a".as_slice(), ReadFault::NotClosed(10)),
+        (b"$c a $.\n$v x\n".as_slice(), ReadFault::NotClosed(8)),
         (b"$c $)".as_slice(), ReadFault::UnknownKeyword(3)),
         (
             b"$c a $. ${ $v x $. l $f a x $. $} m $a a x $.".as_slice(),
             ReadFault::NotActive(41),
         ),
     ] {
-        assert_eq!(rt; read_file(rt.alloc(), text).err(), Some(fault));
+        let (bytes, found) = refused(rt.alloc(), text)?;
+        assert_eq!(rt; bytes.as_slice(), text);
+        assert_eq!(rt; found, fault);
     }
+    Ok(())
+}
+
+#[test]
+fn a_label_has_at_most_255_bytes(rt: HostRuntime) -> Result<(), Fail> {
+    let mut text = Vec::from_slice(rt.alloc(), b"$c a $. ")?;
+    for _ in 0..255 {
+        text.push(b'l')?;
+    }
+    let (_bytes, fault) = refused(rt.alloc(), text.as_slice())?;
+    assert_eq!(rt; fault, ReadFault::NotClosed(8));
+    text.push(b'l')?;
+    let (_bytes, fault) = refused(rt.alloc(), text.as_slice())?;
+    assert_eq!(rt; fault, ReadFault::TooLong(8));
+    assert_eq!(rt; fault.number(), 21);
+    assert_eq!(rt; fault.place(), 8);
     Ok(())
 }

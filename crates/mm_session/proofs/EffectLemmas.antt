@@ -1,27 +1,29 @@
 -- What commands do, and what they leave alone.
-use Rattle.std.proofs.Common.{◌≡◌, ◌≢◌, ◌⊎◌, ◌<◌, ◌≤◌, ℕ, Bool, true, false, IsTrue, List, [], length, Option, Some, None, Result, Ok, Err, IfOk, refl, sym, ◌∙◌, ap, subst, arith, nat_lt, inl, inr}
+use Rattle.std.proofs.Common.{◌≡◌, ◌≢◌, ◌≤◌, ℕ, Bool, true, false, IsTrue, List, [], length, Option, Some, None, Result, Ok, Err, IfOk, is_ok, refl, sym, ◌∙◌, ap, subst, arith, inl, inr}
 use Rattle.std.specs.declared.alloc.AllocError.{AllocError}
 use Rattle.std.proofs.lemmas.List.{take_all}
 use Rattle.std.proofs.lemmas.Bool.{cases_lt}
-use Rattle.std.proofs.lemmas.Bool.Decides.{nat_tests}
 use Rattle.mm_base.specs.Files.{Map, Finds, Numbers, KeepsMap}
 use Rattle.mm_base.specs.declared.files.Fetched.{Fetched}
 use Rattle.mm_base.specs.declared.files.Files.{Ghosts as FilesOf}
-use Rattle.mm_scope.specs.Contents.{is_built, find_label, stated_at}
+use Rattle.mm_scope.specs.Contents.{is_read, find_label, stated_at}
+use Rattle.mm_scope.specs.Contexts.{Fails}
+use Rattle.mm_scope.specs.Databases.{database_of}
+use Rattle.mm_scope.specs.Events.{Event}
+use Rattle.mm_scope.specs.declared.fault.ReadFault.{ReadFault}
+use Rattle.mm_scope.specs.declared.fault.ReadFault.TheVariants as fault
 use Rattle.mm_scope.specs.declared.statement.Kind.{Kind}
 use Rattle.mm_scope.specs.declared.statement.Kind.TheVariants.{Float, Essential, Axiom, Theorem}
-use Rattle.mm_stack.specs.declared.outcome.Verdict.{Verdict}
-use Rattle.mm_stack.specs.declared.outcome.Verdict.TheVariants.{Accepted, Refused}
-use Rattle.mm_stack.specs.Accepting.{verdict_of}
+use Rattle.mm_stack.specs.Decoding.{is_compressed}
 use Rattle.mm_session.specs.declared.state.State.{State}
 use Rattle.mm_session.specs.declared.reply.Reply.{Reply}
 use Rattle.mm_session.specs.declared.reply.Reply.TheVariants as reply
-use Rattle.mm_session.specs.Effect.{Effect, Outcome, Fine, Starved, Faulted, Meets, ended, outcome, is_faulted, with_puts, add_put, reply_of}
-use Rattle.mm_session.specs.Effects.{read_bytes, read_found, read_with, verify_proof, verify_kind, verify_found, verify_with}
-use Rattle.mm_session.specs.Texts.{no_file_text, read_text, not_built_text, already_read_text}
+use Rattle.mm_session.specs.Effect.{Effect, Outcome, Fine, Starved, Faulted, Meets, ended, outcome, is_faulted, with_puts, add_put, reply_of, Refuses}
+use Rattle.mm_session.specs.Effects.{RefusesFor, read_bytes, read_found, read_with, verify_proof, verify_kind, verify_found, verify_with}
+use Rattle.mm_session.specs.Texts.{no_file_text, read_text, database_fault_text, already_read_text}
 use Rattle.mm_session.specs.Calls.{Calls}
 use Rattle.mm_session.specs.Advance.{HasRun}
-use Rattle.mm_scope.proofs.ContentsLemmas.{is_built-length}
+use Rattle.mm_scope.proofs.ContentsLemmas.{is_read-length, first_bytes}
 
 -- a reply whose text takes memory
 pub meets_reply : (s : State) (e : Effect) (text : Result (List ℕ) AllocError) (refused : Bool) → IfOk text (λ t. t ≡ e.text) → refused ≡ e.refused → s ≡ e.state → e.free ≡ false → Meets e s (reply_of text refused) s
@@ -33,75 +35,85 @@ reply_sound (Ok t) refused r e = rw e refl
 reply_sound (Err x) refused r e = rw e refl
 
 -- READ reaches the files, puts nothing and takes memory, where there is no database
-bytes_reach : (s : State) (bytes : List ℕ) (built : Bool) → (read_bytes s bytes built).reaches_files ≡ true
-bytes_reach s bytes true = refl
-bytes_reach s bytes false = refl
+bytes_reach : (s : State) (bytes : List ℕ) (r : Result (List Event) ReadFault) → (read_bytes s bytes r).reaches_files ≡ true
+bytes_reach s bytes (Ok past) = refl
+bytes_reach s bytes (Err e) = refl
 
 read_reaches : (s : State) (name : List ℕ) (found : Option (List ℕ)) → (read_found s name found).reaches_files ≡ true
 read_reaches s name None = refl
-read_reaches s name (Some bytes) = bytes_reach s bytes (is_built bytes)
+read_reaches s name (Some bytes) = bytes_reach s bytes (database_of bytes)
 
-bytes_put : (s : State) (bytes : List ℕ) (built : Bool) → (read_bytes s bytes built).put ≡ None
-bytes_put s bytes true = refl
-bytes_put s bytes false = refl
+bytes_put : (s : State) (bytes : List ℕ) (r : Result (List Event) ReadFault) → (read_bytes s bytes r).put ≡ None
+bytes_put s bytes (Ok past) = refl
+bytes_put s bytes (Err e) = refl
 
 read_put : (s : State) (name : List ℕ) (found : Option (List ℕ)) → (read_found s name found).put ≡ None
 read_put s name None = refl
-read_put s name (Some bytes) = bytes_put s bytes (is_built bytes)
+read_put s name (Some bytes) = bytes_put s bytes (database_of bytes)
 
-bytes_take : (s : State) (bytes : List ℕ) (built : Bool) → (read_bytes s bytes built).free ≡ false
-bytes_take s bytes true = refl
-bytes_take s bytes false = refl
+bytes_take : (s : State) (bytes : List ℕ) (r : Result (List Event) ReadFault) → (read_bytes s bytes r).free ≡ false
+bytes_take s bytes (Ok past) = refl
+bytes_take s bytes (Err e) = refl
 
 read_takes : (s : State) (name : List ℕ) (found : Option (List ℕ)) → (read_found s name found).free ≡ false
 read_takes s name None = refl
-read_takes s name (Some bytes) = bytes_take s bytes (is_built bytes)
+read_takes s name (Some bytes) = bytes_take s bytes (database_of bytes)
 
-not_true : (b : Bool) → (b ≡ true → ⊥) → b ≡ false
-not_true true h = absurd (h refl)
-not_true false h = refl
+-- the first bytes of a file say what all of them say
+first_say : (bytes : List ℕ) (f : Fetched) → Finds (Some bytes) 134217729 (Some f) → database_of f.bytes.items ≡ database_of bytes
+first_say bytes f h = ap database_of h.0 ∙ first_bytes bytes
 
--- a file that is too long isn't of the built form
-too_long : (bytes : List ℕ) → 134217728 < length bytes → is_built bytes ≡ false
-too_long bytes lt = not_true (is_built bytes) (λ h. let le : length bytes ≤ 134217728 = is_built-length bytes h in omega arith)
+-- where they are read, they are all of them
+whole_file : (bytes : List ℕ) (f : Fetched) → Finds (Some bytes) 134217729 (Some f) → is_read bytes ≡ true → f.bytes.items ≡ bytes
+whole_file bytes f h read = let le : length bytes ≤ 134217728 = is_read-length bytes read in h.0 ∙ take_all 134217729 bytes (omega (arith, le))
 
-more_is_long : (n : ℕ) → nat_lt 134217729 n ≡ true → 134217728 < n
-more_is_long n h = grind (arith, nat_tests)
+bytes_read : (s : State) (bytes database text : List ℕ) (r : Result (List Event) ReadFault) → is_ok r ≡ true → database ≡ bytes → text ≡ read_text bytes →
+    Meets (read_bytes s bytes r) s (reply.Done text false) (record { database = Some database })
+bytes_read s bytes database text (Ok past) o d t = record {
+  text = t;
+  refused = refl;
+  state = ap (λ (x : List ℕ). let s' : State = record { database = Some x } in s') d;
+  faulted = λ y. refl;
+  starved = λ y. refl;
+}
+bytes_read s bytes database text (Err e) o d t = let no : false ≡ true = o in cc
 
-not_more : (n : ℕ) → nat_lt 134217729 n ≡ false → n ≤ 134217729
-not_more n h = grind (arith, nat_tests)
-
-whole_file : (bytes : List ℕ) (f : Fetched) → Finds (Some bytes) 134217729 (Some f) → f.more ≡ false → f.bytes.items ≡ bytes
-whole_file bytes f h m = h.0 ∙ take_all 134217729 bytes (not_more (length bytes) (sym h.1 ∙ m))
-
--- a file of the built form is read
+-- a file without a fault is read
 pub read_whole : (s : State) (name : List ℕ) (found : Option (List ℕ)) (f : Fetched) (database text : List ℕ) →
-    Finds found 134217729 (Some f) → f.more ≡ false → is_built f.bytes.items ≡ true → database ≡ f.bytes.items → text ≡ read_text f.bytes.items →
+    Finds found 134217729 (Some f) → is_read f.bytes.items ≡ true → database ≡ f.bytes.items → text ≡ read_text f.bytes.items →
     Meets (read_found s name found) s (reply.Done text false) (record { database = Some database })
-read_whole s name None f database text h m b d t = absurd h
-read_whole s name (Some bytes) f database text h m b d t =
-    let same : f.bytes.items ≡ bytes = whole_file bytes f h m in
-    let is : is_built bytes ≡ true = ap is_built (sym same) ∙ b in
-    rw is (record {
-      text = t ∙ ap read_text same;
-      refused = refl;
-      state = ap (λ (x : List ℕ). let s' : State = record { database = Some x } in s') (d ∙ same);
-      faulted = λ y. refl;
-      starved = λ y. refl;
-    })
+unfolding is_read
+read_whole s name None f database text h o d t = absurd h
+read_whole s name (Some bytes) f database text h o d t =
+    let is : is_read bytes ≡ true = sym (ap is_ok (first_say bytes f h)) ∙ o in
+    let same : f.bytes.items ≡ bytes = whole_file bytes f h is in
+    bytes_read s bytes database text (database_of bytes) is (d ∙ same) (t ∙ ap read_text same)
 
-is_not_built : (bytes : List ℕ) (f : Fetched) (more : Bool) → f.more ≡ more → Finds (Some bytes) 134217729 (Some f) → (f.more ≡ true) ⊎ (is_built f.bytes.items ≡ false) → is_built bytes ≡ false
-is_not_built bytes f true m h o = too_long bytes (more_is_long (length bytes) (sym h.1 ∙ m))
-is_not_built bytes f false m h (inl long) = let no : false ≡ true = sym m ∙ long in cc
-is_not_built bytes f false m h (inr b) = ap is_built (sym (whole_file bytes f h m)) ∙ b
+meets_refusal : (s : State) (e : Effect) (r : Reply) → Refuses e.text r → e.refused ≡ true → e.state ≡ s → e.free ≡ false → Meets e s r s
+meets_refusal s e (reply.Done text refused) h is kept takes = record { text = h.0; refused = h.1 ∙ sym is; state = sym kept; faulted = λ y. cc; starved = λ y. cc }
+meets_refusal s e reply.Starved h is kept takes = record { text = refl; refused = refl; state = refl; faulted = λ y. cc; starved = λ y. takes }
+meets_refusal s e reply.Faulted h is kept takes = absurd h
 
--- any other is not
-pub read_other : (s : State) (name : List ℕ) (found : Option (List ℕ)) (f : Fetched) (r : Reply) →
-    Finds found 134217729 (Some f) → (f.more ≡ true) ⊎ (is_built f.bytes.items ≡ false) → r ≡ reply.Done not_built_text true →
-    Meets (read_found s name found) s r s
-read_other s name None f r h o e = absurd h
-read_other s name (Some bytes) f r h o e =
-    rw (e, is_not_built bytes f f.more refl h o) (record { text = refl; refused = refl; state = refl; faulted = λ y. refl; starved = λ y. refl })
+bytes_refused : (s : State) (bytes : List ℕ) (e : ReadFault) (r : Reply) → database_of bytes ≡ Err e → Refuses (database_fault_text e) r →
+    Meets (read_bytes s bytes (database_of bytes)) s r s
+bytes_refused s bytes e r same h = rw same (meets_refusal s (read_bytes s bytes (Err e)) r h refl refl refl)
+
+-- a file with a fault is refused, with its first one
+pub read_faulty : (s : State) (name : List ℕ) (found : Option (List ℕ)) (f : Fetched) (e : ReadFault) (r : Reply) →
+    Finds found 134217729 (Some f) → Fails e (database_of f.bytes.items) → RefusesFor e r → Meets (read_found s name found) s r s
+read_faulty s name None f e r h fails refuses = absurd h
+read_faulty s name (Some bytes) f fault.Memory r h fails refuses =
+    rw refuses (record { text = refl; refused = refl; state = refl; faulted = λ y. cc; starved = λ y. read_takes s name (Some bytes) })
+read_faulty s name (Some bytes) f e r h fails refuses = bytes_refused s bytes e r (sym (first_say bytes f h) ∙ fails) refuses
+
+refusal_sound : (text : List ℕ) (r : Reply) → Refuses text r → is_faulted r ≡ false
+refusal_sound text (reply.Done t refused) h = refl
+refusal_sound text reply.Starved h = refl
+refusal_sound text reply.Faulted h = absurd h
+
+pub refused_sound : (e : ReadFault) (r : Reply) → RefusesFor e r → is_faulted r ≡ false
+refused_sound fault.Memory r h = rw h refl
+refused_sound e r h = refusal_sound (database_fault_text e) r h
 
 -- no file is there
 pub read_none : (s : State) (name : List ℕ) (found : Option (List ℕ)) (text : Result (List ℕ) AllocError) (r : Reply) →
@@ -207,38 +219,38 @@ module _ {F : Type 0} (fs : FilesOf F) where
   run_already s database bytes name files r e is = rw (e, is)
       (run_apart (λ map. read_with s (Some bytes) map name) s files (reply.Done already_read_text true) s (record { text = refl; refused = refl; state = refl; faulted = λ y. cc; starved = λ y. cc }) refl refl (λ y. cc))
 
-proof_put : (s : State) (label : List ℕ) (v : Verdict) → (verify_proof s label v).put ≡ None
-proof_put s label Accepted = refl
-proof_put s label Refused = refl
+proof_put : (s : State) (label bytes : List ℕ) (id : ℕ) (compressed : Bool) → (verify_proof s label bytes id compressed).put ≡ None
+proof_put s label bytes id true = refl
+proof_put s label bytes id false = refl
 
-kind_put : (s : State) (label : List ℕ) (kind : Kind) (v : Verdict) → (verify_kind s label kind v).put ≡ None
-kind_put s label Theorem v = proof_put s label v
-kind_put s label Axiom v = refl
-kind_put s label Essential v = refl
-kind_put s label Float v = refl
+kind_put : (s : State) (label bytes : List ℕ) (id : ℕ) (kind : Kind) → (verify_kind s label bytes id kind).put ≡ None
+kind_put s label bytes id Theorem = proof_put s label bytes id (is_compressed bytes id)
+kind_put s label bytes id Axiom = refl
+kind_put s label bytes id Essential = refl
+kind_put s label bytes id Float = refl
 
 found_put : (s : State) (label bytes : List ℕ) (found : Option ℕ) → (verify_found s label bytes found).put ≡ None
 found_put s label bytes None = refl
-found_put s label bytes (Some id) = kind_put s label (stated_at bytes id).kind (verdict_of bytes id)
+found_put s label bytes (Some id) = kind_put s label bytes id (stated_at bytes id).kind
 
 -- VERIFY PROOF puts nothing, and leaves the files alone
 pub verify_put : (s : State) (database : Option (List ℕ)) (label : List ℕ) → (verify_with s database label).put ≡ None
 verify_put s None label = refl
 verify_put s (Some bytes) label = found_put s label bytes (find_label bytes label)
 
-proof_far : (s : State) (label : List ℕ) (v : Verdict) → (verify_proof s label v).reaches_files ≡ false
-proof_far s label Accepted = refl
-proof_far s label Refused = refl
+proof_far : (s : State) (label bytes : List ℕ) (id : ℕ) (compressed : Bool) → (verify_proof s label bytes id compressed).reaches_files ≡ false
+proof_far s label bytes id true = refl
+proof_far s label bytes id false = refl
 
-kind_far : (s : State) (label : List ℕ) (kind : Kind) (v : Verdict) → (verify_kind s label kind v).reaches_files ≡ false
-kind_far s label Theorem v = proof_far s label v
-kind_far s label Axiom v = refl
-kind_far s label Essential v = refl
-kind_far s label Float v = refl
+kind_far : (s : State) (label bytes : List ℕ) (id : ℕ) (kind : Kind) → (verify_kind s label bytes id kind).reaches_files ≡ false
+kind_far s label bytes id Theorem = proof_far s label bytes id (is_compressed bytes id)
+kind_far s label bytes id Axiom = refl
+kind_far s label bytes id Essential = refl
+kind_far s label bytes id Float = refl
 
 found_far : (s : State) (label bytes : List ℕ) (found : Option ℕ) → (verify_found s label bytes found).reaches_files ≡ false
 found_far s label bytes None = refl
-found_far s label bytes (Some id) = kind_far s label (stated_at bytes id).kind (verdict_of bytes id)
+found_far s label bytes (Some id) = kind_far s label bytes id (stated_at bytes id).kind
 
 pub verify_far : (s : State) (database : Option (List ℕ)) (label : List ℕ) → (verify_with s database label).reaches_files ≡ false
 verify_far s None label = refl

@@ -72,6 +72,12 @@ abbrev pub reply_of : Result (List ℕ) AllocError → Bool → Reply
 reply_of (Ok text) refused = reply.Done text refused
 reply_of (Err e) refused = reply.Starved
 
+-- a refusal with this text, unless memory ran out
+abbrev pub Refuses : List ℕ → Reply → Type 0
+Refuses text (reply.Done t refused) = (t ≡ text) × (refused ≡ true)
+Refuses text reply.Starved = Unit {0}
+Refuses text reply.Faulted = ⊥
+
 -- The reply, and the state after it, are those of a command with this effect that ends as the reply says.
 -- It starves only where the command takes memory, and meets a file fault only where the command reaches the files.
 pub record Meets (effect : Effect) (before : State) (reply : Reply) (after : State) : Type 0 where

@@ -8,3 +8,4 @@ pub mod Headline
 pub mod Laws
 pub mod Session
 pub mod Texts
+pub mod Verdicts

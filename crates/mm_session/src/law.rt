@@ -1,7 +1,7 @@
 ghost use Rattle.std.specs.Prelude.{◌≡◌, List, ℕ, take};
 ghost use Rattle.mm_session.specs.Command.{command_of};
 ghost use Rattle.mm_session.specs.Session.{shown};
-ghost use Rattle.mm_session.specs.Laws.{SaysAccepted, AcceptedIsSaid, DatabaseIsBuilt, ReadIsWhole};
+ghost use Rattle.mm_session.specs.Laws.{SaysAccepted, AcceptedIsSaid, DatabaseIsSound, ReadIsWhole};
 
 /// Of a line that is too long, its first 65,537 bytes are as good as all of it.
 pub fn kept_is_enough()
@@ -15,8 +15,8 @@ pub fn accepted_is_proved()
     ensures said { AcceptedIsSaid }
 {}
 
-/// What is read is the whole of a file that has the form that is read.
+/// What is read is the whole of a file that has no fault.
 pub fn read_is_whole()
     ensures read { ReadIsWhole }
-    ensures built { DatabaseIsBuilt }
+    ensures sound { DatabaseIsSound }
 {}

@@ -13,6 +13,7 @@ mod show;
 mod state;
 mod step;
 mod text;
+mod verdict;
 mod verify;
 mod word;
 

@@ -1,27 +1,22 @@
-ghost use Rattle.std.specs.Prelude.{◌≡◌, ◌⊎◌, List, ℕ, None, IfOk, IsTrue, true, false};
+ghost use Rattle.std.specs.Prelude.{◌≡◌, List, ℕ, None, IfOk, IfErr, IsTrue, true};
 ghost use Rattle.mm_base.specs.Outside.{CountsFaults};
-ghost use Rattle.mm_scope.specs.Contents.{is_built};
+ghost use Rattle.mm_scope.specs.Contents.{is_read};
+ghost use Rattle.mm_scope.specs.Contexts.{Fails};
+ghost use Rattle.mm_scope.specs.Databases.{database_of};
 ghost use Rattle.mm_session.specs.Texts.{read_text};
 ghost use Rattle.mm_session.specs.Effect.{is_faulted};
-ghost use Rattle.mm_session.specs.Effects.{read_effect, read_found};
+ghost use Rattle.mm_session.specs.Effects.{RefusesFor, read_effect, read_found};
 ghost use Rattle.mm_session.specs.Advance.{HasRun};
 
-use crate::refusal::{already_read, no_file, not_built};
+use crate::refusal::{already_read, database_fault, no_file};
 use crate::reply::{Reply, reply_of};
 use crate::state::State;
 use crate::text::Text;
-use mm_base::{Fetched, Files, FilesFault, Memory};
+use mm_base::{Files, FilesFault, Memory};
 use mm_scope::{Database, Kind, ReadFault};
 use std::alloc::Global;
 
-// Why a file gives no database.
-#[derive(Drop)]
-enum NotLoaded {
-    NotBuilt,
-    Memory,
-}
-
-// One byte more than a database may have.
+// One byte more than a database may have: a longer file has the same first fault.
 const MOST: u64 = 134_217_729;
 
 /// Reads a database from a file.
@@ -47,7 +42,7 @@ fn read_first<F: Files>(alloc: Global, state: &mut State, files: &mut F, name: &
         Err(FilesFault::Failed) => Reply::Faulted,
         Err(FilesFault::Memory) => Reply::Starved,
         Ok(None) => reply_of(no_file(alloc, name), true),
-        Ok(Some(fetched)) => match load(alloc, fetched) {
+        Ok(Some(fetched)) => match load(alloc, fetched.bytes) {
             Ok((database, text)) => {
                 state.database = Some(database);
                 Reply::Done {
@@ -55,28 +50,33 @@ fn read_first<F: Files>(alloc: Global, state: &mut State, files: &mut F, name: &
                     refused: false,
                 }
             }
-            Err(NotLoaded::NotBuilt) => not_built(alloc),
-            Err(NotLoaded::Memory) => Reply::Starved,
+            Err(fault) => refuse(alloc, fault),
         },
     }
 }
 
-// The database of a file, and the text that tells of it.
-fn load(alloc: Global, fetched: Fetched) -> Result<(Database, Text), NotLoaded>
-    ensures read { IfOk result (λ r. (r.0 ≡ fetched.bytes.items) × (r.1 ≡ read_text fetched.bytes.items)) }
-    ensures built { IfOk result (λ _. (is_built fetched.bytes.items ≡ true) × (fetched.more ≡ false)) }
-    ensures not_built { (result ≡ Err NotLoaded.NotBuilt) → (fetched.more ≡ true) ⊎ (is_built fetched.bytes.items ≡ false) }
+// The database of a file's bytes, and the text that tells of it.
+fn load(alloc: Global, bytes: Vec<u8>) -> Result<(Database, Text), ReadFault>
+    ensures read { IfOk result (λ r. (r.0 ≡ bytes.items) × (r.1 ≡ read_text bytes.items)) }
+    ensures sound { IfOk result (λ _. is_read bytes.items ≡ true) }
+    ensures fault { IfErr result (λ fault. Fails fault (database_of bytes.items)) }
 {
-    if fetched.more {
-        return Err(NotLoaded::NotBuilt);
-    }
-    match Database::read(alloc, fetched.bytes) {
-        Err((_, ReadFault::Memory)) => Err(NotLoaded::Memory),
-        Err(_) => Err(NotLoaded::NotBuilt),
+    match Database::read(alloc, bytes) {
+        Err((_, fault)) => Err(fault),
         Ok(database) => match tell(alloc, &database) {
             Ok(text) => Ok((database, text)),
-            Err(_) => Err(NotLoaded::Memory),
+            Err(_) => Err(ReadFault::Memory),
         },
+    }
+}
+
+// The reply to a file that is not read.
+fn refuse(alloc: Global, fault: ReadFault) -> Reply
+    ensures { RefusesFor fault result }
+{
+    match fault {
+        ReadFault::Memory => Reply::Starved,
+        _ => reply_of(database_fault(alloc, fault), true),
     }
 }
 

@@ -1,9 +1,10 @@
 ghost use Rattle.std.specs.Prelude.{◌≡◌, ◌++◌, IfOk, true};
-ghost use Rattle.mm_session.specs.Texts.{no_database_text, already_read_text, no_file_text, no_statement_text, not_theorem_text, not_built_text, not_verified_text, line_of};
+ghost use Rattle.mm_session.specs.Texts.{no_database_text, already_read_text, no_file_text, database_fault_text, no_statement_text, not_theorem_text, not_built_text, line_of};
 
 use crate::reply::Reply;
 use crate::text::Text;
 use mm_base::Memory;
+use mm_scope::ReadFault;
 use std::alloc::Global;
 
 /// C5.
@@ -36,6 +37,17 @@ pub fn no_file(alloc: Global, name: &[u8]) -> Result<Text, Memory>
     Ok(Text::new(b"?C7: no file ", joined(alloc, name, b"")?))
 }
 
+/// C8, with the number of the fault and its place in bytes.
+#[tactic(auto, unfolding(crate::specs::Texts::database_fault_text))]
+pub fn database_fault(alloc: Global, fault: ReadFault) -> Result<Text, Memory>
+    ensures { IfOk result (λ text. text ≡ database_fault_text fault) }
+{
+    let number = fault.number();
+    let place = fault.place();
+    let line = format!(in alloc; "{number} at byte {place}\n")?;
+    Ok(Text::new(b"?C8: database fault ", line.into_bytes()))
+}
+
 /// C9, with the label.
 #[tactic(auto, unfolding(crate::specs::Texts::no_statement_text))]
 pub fn no_statement(alloc: Global, label: &[u8]) -> Result<Text, Memory>
@@ -61,14 +73,6 @@ pub fn not_built(alloc: Global) -> Reply
         text: Text::fixed(alloc, b"?C60: not built yet\n"),
         refused: true,
     }
-}
-
-/// C61, with the label.
-#[tactic(auto, unfolding(crate::specs::Texts::not_verified_text))]
-pub fn not_verified(alloc: Global, label: &[u8]) -> Result<Text, Memory>
-    ensures { IfOk result (λ text. text ≡ not_verified_text label.now) }
-{
-    Ok(Text::new(b"?C61: ", joined(alloc, label, b" is not verified")?))
 }
 
 // A word, the end of its line's text, and LF.

@@ -101,7 +101,7 @@ fn proofs_are_verified(rt: HostRuntime) -> Result<(), Fail> {
     assert_eq!(rt; end.status, 1);
     assert_eq!(rt;
         screen.held(),
-        b"MM> READ a.mm\nRead: labelled 3, axioms 1, theorems 2.\nMM> VERIFY PROOF p\nChecked 1: accepted 1, incomplete 0, faulty 0.\nMM> VERIFY PROOF q\n?C61: q is not verified\nMM> VERIFY PROOF x\n?C10: x is not a theorem\nMM> \n".as_slice()
+        b"MM> READ a.mm\nRead: labelled 3, axioms 1, theorems 2.\nMM> VERIFY PROOF p\nChecked 1: accepted 1, incomplete 0, faulty 0.\nMM> VERIFY PROOF q\nq: fault 7, 2 entries\nChecked 1: accepted 0, incomplete 0, faulty 1.\nMM> VERIFY PROOF x\n?C10: x is not a theorem\nMM> \n".as_slice()
     );
     Ok(())
 }

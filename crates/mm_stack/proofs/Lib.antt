@@ -5,3 +5,4 @@ pub mod Assertions
 pub mod RunLemmas
 pub mod Spelling
 pub mod Substituting
+mod Firsts

@@ -10,9 +10,10 @@ use Rattle.mm_scope.specs.Stated.{Stated}
 use Rattle.mm_scope.specs.Contents.{stated_at}
 use Rattle.mm_stack.specs.Substitution.{Binding, value_of, instance}
 use Rattle.mm_stack.specs.Running.{Argument, arguments, is_float, begins_with, has_typecode, substitution_of, is_instance}
-use Rattle.mm_stack.specs.Running.{applied, popped, values_at, kept, conclusion_at, most_symbols}
+use Rattle.mm_stack.specs.Running.{unless, applied, popped, values_at, kept, conclusion_at, most_symbols, violations_at}
+use Rattle.mm_stack.specs.declared.outcome.StackFault.{StackFault}
 use Rattle.mm_stack.specs.Laws.{variables_of, IsApart, AreApart, hypotheses_of, Substitutes}
-use Rattle.mm_stack.specs.declared.outcome.Outcome.{Outcome}
+use Rattle.mm_stack.specs.declared.outcome.Verdict.{Verdict}
 
 both : (a b : Bool) → (a && b) ≡ true → (a ≡ true) × (b ≡ true)
 both true b h = (refl, h)
@@ -164,9 +165,14 @@ entries_are bytes (m ∷ ms) [] h = absurd (omega arith)
 entries_are bytes (m ∷ ms) (e ∷ es) h = ap (λ xs. e ∷ xs) (entries_are bytes ms es (omega arith))
 
 -- a check that did not hold
-unless_ok : {A : Type 0} (b : Bool) (o : Outcome) (r : Result A Outcome) (x : A) → (if b then Err o else r) ≡ Ok x → (b ≡ false) × (r ≡ Ok x)
+unless_ok : {A : Type 0} (b : Bool) (o : Verdict) (r : Result A Verdict) (x : A) → (if b then Err o else r) ≡ Ok x → (b ≡ false) × (r ≡ Ok x)
 unless_ok true o r x h = absurd (cc)
 unless_ok false o r x h = (refl, h)
+
+no_violation : {A : Type 0} (fs : List StackFault) (cs : List (Bool × StackFault)) (r : Result A Verdict) (x : A)
+    → unless (map (λ g. (true, g)) fs ++ cs) r ≡ Ok x → unless cs r ≡ Ok x
+no_violation [] cs r x h = h
+no_violation (g ∷ gs) cs r x h = absurd (cc)
 
 not_false : (b : Bool) → not b ≡ false → b ≡ true
 not_false true h = refl
@@ -176,16 +182,16 @@ room_for : (n m : ℕ) → nat_lt n m ≡ false → m ≤ n
 room_for n m h = grind arith
 
 -- where an assertion pushes an entry, one substitution does all
-pub applied_substitutes : (bytes : List ℕ) (a : Stated) (stack next : List (List ℕ)) (k : ℕ) → AreApart (variables_of (hypotheses_of bytes a)) (hypotheses_of bytes a)
-    → applied bytes a stack k ≡ Ok next → Substitutes bytes a stack next
+pub applied_substitutes : (bytes : List ℕ) (groups : List (List ℕ)) (a : Stated) (stack next : List (List ℕ)) (k : ℕ) → AreApart (variables_of (hypotheses_of bytes a)) (hypotheses_of bytes a)
+    → applied bytes groups a stack k ≡ Ok next → Substitutes bytes a stack next
 unfolding applied
-applied_substitutes bytes a stack next k apart h =
+applied_substitutes bytes groups a stack next k apart h =
     let args = popped bytes a stack in
     let value = values_at bytes a stack in
     let first = unless_ok (nat_lt (length stack) (length a.mandatory)) _ _ next h in
     let second = unless_ok (not (list_all has_typecode args)) _ _ next first.1 in
     let third = unless_ok (not (list_all (is_instance value) args)) _ _ next second.1 in
-    let fourth = unless_ok (nat_lt most_symbols (length (conclusion_at bytes a stack))) _ _ next third.1 in
+    let fourth = unless_ok (nat_lt most_symbols (length (conclusion_at bytes a stack))) _ _ next (no_violation (violations_at bytes groups a stack k) _ _ next third.1) in
     let room = room_for (length stack) (length a.mandatory) first.0 in
     let many : length a.mandatory ≡ length (drop (kept a stack) stack) = omega (arith, length-drop (kept a stack) stack) in
     let hypotheses = hypotheses_are bytes a.mandatory (drop (kept a stack) stack) many in

@@ -1,5 +1,5 @@
 -- The steps that a normal proof spells, or its first fault (Metamath book, section 4.1.4).
-use Rattle.std.specs.Prelude.{ℕ, ◌+◌, Bool, ◌==◌, nat_lt, List, [], ◌∷◌, Option, None, Some, Result, Ok, Err, slice_range, if◌then◌else◌}
+use Rattle.std.specs.Prelude.{ℕ, ◌+◌, Bool, false, ◌==◌, nat_lt, List, [], ◌∷◌, Option, None, Some, Result, Ok, Err, slice_range, if◌then◌else◌}
 use Rattle.std.specs.List.{list_any}
 use Rattle.std.specs.Str.{bytes_eq}
 use Rattle.mm_tokens.specs.Pieces.{pieces_of, tokens_in}
@@ -58,3 +58,12 @@ steps_in bytes id proof = steps_from bytes id proof 1 (tokens_in (pieces_of proo
 -- the steps of a theorem's proof, or its first fault from left to right
 unfoldable pub decoded : List ℕ → ℕ → Result (List Step) ProofFault
 decoded bytes id = after (steps_in bytes id (proof_of bytes id)) unless_empty
+
+-- `(`, with which a compressed proof begins
+abbrev pub begins_list : List ℕ → List Token → Bool
+begins_list proof [] = false
+begins_list proof (t ∷ ts) = bytes_eq (slice_range proof t.start t.end) (40 ∷ [])
+
+-- whether a theorem's proof is compressed: its first token is `(`
+abbrev pub is_compressed : List ℕ → ℕ → Bool
+is_compressed bytes id = begins_list (proof_of bytes id) (tokens_in (pieces_of (proof_of bytes id)))

@@ -4,7 +4,7 @@ use Rattle.std.specs.Global.{Global}
 use Rattle.mm_scope.specs.Contents.{labels_of}
 use Rattle.mm_stack.specs.Seats.{value_in}
 use Rattle.mm_stack.specs.Substitution.{Binding, value_of}
-use Rattle.mm_stack.specs.declared.outcome.Outcome.{Outcome}
+use Rattle.mm_stack.specs.declared.outcome.Verdict.{Verdict}
 use Rattle.mm_stack.specs.declared.outcome.ProofFault.{ProofFault}
 use Rattle.mm_stack.specs.declared.outcome.ProofFault.TheVariants as fault
 use Rattle.mm_stack.specs.declared.machine.Stop.{Stop}
@@ -23,12 +23,12 @@ IsOwn bytes (Apply id) = id.0 < length (labels_of bytes)
 IsOwn bytes Unknown = Unit {0}
 
 -- where a run stops, unless memory ran out
-abbrev pub Stops : Stop → Result (List (List ℕ)) Outcome → Type 0
+abbrev pub Stops : Stop → Result (List (List ℕ)) Verdict → Type 0
 Stops Memory run = Unit {0}
 Stops (Ended o) run = run ≡ Err o
 
 -- the stack is what a run gives, unless memory ran out
-abbrev pub GivesStack : List (List ℕ) → Result (Unit {0}) Stop → Result (List (List ℕ)) Outcome → Type 0
+abbrev pub GivesStack : List (List ℕ) → Result (Unit {0}) Stop → Result (List (List ℕ)) Verdict → Type 0
 GivesStack stack (Ok _) run = run ≡ Ok stack
 GivesStack stack (Err stop) run = Stops stop run
 

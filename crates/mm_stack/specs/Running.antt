@@ -1,17 +1,18 @@
 -- The run of a proof: a fold over its steps, from the empty stack (Metamath book, section 4.1.4). A stack is the list of
 -- its entries, the oldest first; an entry is a list of symbols by number.
-use Rattle.std.specs.Prelude.{ℕ, ◌+◌, ◌-◌, Bool, true, false, not, ◌||◌, ◌==◌, nat_lt, List, [], ◌∷◌, ◌++◌, length, take, drop, slice_index, Result, Ok, Err, if◌then◌else◌}
+use Rattle.std.specs.Prelude.{ℕ, ◌+◌, ◌-◌, Bool, true, false, not, ◌||◌, ◌==◌, nat_lt, List, [], ◌∷◌, ◌++◌, length, map, take, drop, slice_index, Result, Ok, Err, if◌then◌else◌}
 use Rattle.std.specs.List.{list_all}
 use Rattle.std.specs.Str.{bytes_eq}
 use Rattle.mm_scope.specs.Stated.{Stated}
 use Rattle.mm_scope.specs.Contents.{stated_at}
 use Rattle.mm_scope.specs.declared.statement.Kind.{Kind}
 use Rattle.mm_scope.specs.declared.statement.Kind.TheVariants as kind
+use Rattle.mm_stack.specs.Differing.{violations}
 use Rattle.mm_stack.specs.Substitution.{Binding, value_of, instance}
 use Rattle.mm_stack.specs.declared.outcome.StackFault.{StackFault}
 use Rattle.mm_stack.specs.declared.outcome.StackFault.TheVariants.{Underflow, FloatMismatch, EssentialMismatch, TooLong}
-use Rattle.mm_stack.specs.declared.outcome.Outcome.{Outcome}
-use Rattle.mm_stack.specs.declared.outcome.Outcome.TheVariants.{Incomplete, Faulty}
+use Rattle.mm_stack.specs.declared.outcome.Verdict.{Verdict}
+use Rattle.mm_stack.specs.declared.outcome.Verdict.TheVariants.{Incomplete, Faulty}
 use Rattle.mm_stack.specs.declared.step.Step.{Step}
 use Rattle.mm_stack.specs.declared.step.Step.TheVariants.{Hyp, Apply, Unknown}
 
@@ -60,14 +61,14 @@ abbrev pub is_instance : (ℕ → List ℕ) → Argument → Bool
 is_instance value a = is_float a.hypothesis.kind || bytes_eq (instance value a.hypothesis.symbols) a.entry
 
 -- the fault of the first check that holds, if one does
-abbrev pub unless : {A : Type 0} → List (Bool × StackFault) → Result A Outcome → Result A Outcome
+abbrev pub unless : {A : Type 0} → List (Bool × StackFault) → Result A Verdict → Result A Verdict
 unless [] r = r
 unless (c ∷ cs) r = if c.0 then Err (Faulty c.1) else unless cs r
 
 -- goes on unless the run has ended
-abbrev pub after : {A B : Type 0} → Result A Outcome → (A → Result B Outcome) → Result B Outcome
+abbrev pub after : {A B : Type 0} → Result A Verdict → (A → Result B Verdict) → Result B Verdict
 after (Ok x) f = f x
-after (Err o) f = Err o
+after (Err v) f = Err v
 
 -- how many entries an assertion leaves
 abbrev pub kept : Stated → List (List ℕ) → ℕ
@@ -85,30 +86,39 @@ values_at bytes a stack = value_of (substitution_of (popped bytes a stack))
 abbrev pub conclusion_at : List ℕ → Stated → List (List ℕ) → List ℕ
 conclusion_at bytes a stack = instance (values_at bytes a stack) a.symbols
 
--- the faults of an assertion as step k, in the order in which they are tried
-abbrev pub checks : List ℕ → Stated → List (List ℕ) → ℕ → List (Bool × StackFault)
-checks bytes a stack k =
+-- whether the entry that an assertion pushes passes the limit
+abbrev pub is_too_long : List ℕ → Stated → List (List ℕ) → Bool
+is_too_long bytes a stack = nat_lt most_symbols (length (conclusion_at bytes a stack))
+
+-- the pairs that an assertion as step k puts together wrongly, in order
+abbrev pub violations_at : List ℕ → List (List ℕ) → Stated → List (List ℕ) → ℕ → List StackFault
+violations_at bytes groups a stack k = violations bytes groups k (values_at bytes a stack) a.pairs
+
+-- The faults of an assertion as step k, in the order in which they are tried, where these groups of variables must
+-- differ.
+abbrev pub checks : List ℕ → List (List ℕ) → Stated → List (List ℕ) → ℕ → List (Bool × StackFault)
+checks bytes groups a stack k =
     (nat_lt (length stack) (length a.mandatory), Underflow k)
     ∷ (not (list_all has_typecode (popped bytes a stack)), FloatMismatch k)
     ∷ (not (list_all (is_instance (values_at bytes a stack)) (popped bytes a stack)), EssentialMismatch k)
-    ∷ (nat_lt most_symbols (length (conclusion_at bytes a stack)), TooLong k)
-    ∷ []
+    ∷ map (λ f. (true, f)) (violations_at bytes groups a stack k)
+    ++ (is_too_long bytes a stack, TooLong k) ∷ []
 
 -- an assertion as step k
-unfoldable pub applied : List ℕ → Stated → List (List ℕ) → ℕ → Result (List (List ℕ)) Outcome
-applied bytes a stack k = unless (checks bytes a stack k) (Ok (take (kept a stack) stack ++ conclusion_at bytes a stack ∷ []))
+unfoldable pub applied : List ℕ → List (List ℕ) → Stated → List (List ℕ) → ℕ → Result (List (List ℕ)) Verdict
+applied bytes groups a stack k = unless (checks bytes groups a stack k) (Ok (take (kept a stack) stack ++ conclusion_at bytes a stack ∷ []))
 
 -- the stack after step k
-abbrev pub run_step : List ℕ → List (List ℕ) → ℕ → Step → Result (List (List ℕ)) Outcome
-run_step bytes stack k (Hyp id) = Ok (stack ++ (stated_at bytes id.0).symbols ∷ [])
-run_step bytes stack k (Apply id) = applied bytes (stated_at bytes id.0) stack k
-run_step bytes stack k Unknown = Err Incomplete
+abbrev pub run_step : List ℕ → List (List ℕ) → List (List ℕ) → ℕ → Step → Result (List (List ℕ)) Verdict
+run_step bytes groups stack k (Hyp id) = Ok (stack ++ (stated_at bytes id.0).symbols ∷ [])
+run_step bytes groups stack k (Apply id) = applied bytes groups (stated_at bytes id.0) stack k
+run_step bytes groups stack k Unknown = Err Incomplete
 
 -- the stack after these steps, of which the first is step k, or what ends the run before
-unfoldable pub run_from : List ℕ → List (List ℕ) → ℕ → List Step → Result (List (List ℕ)) Outcome
-run_from bytes stack k [] = Ok stack
-run_from bytes stack k (s ∷ ss) = after (run_step bytes stack k s) (λ next. run_from bytes next (k + 1) ss)
+unfoldable pub run_from : List ℕ → List (List ℕ) → List (List ℕ) → ℕ → List Step → Result (List (List ℕ)) Verdict
+run_from bytes groups stack k [] = Ok stack
+run_from bytes groups stack k (s ∷ ss) = after (run_step bytes groups stack k s) (λ next. run_from bytes groups next (k + 1) ss)
 
--- the stack at the end of a proof, or what ends its run before
-abbrev pub run : List ℕ → List Step → Result (List (List ℕ)) Outcome
-run bytes steps = run_from bytes [] 1 steps
+-- the stack at the end of a proof, or what ends its run before; variables of a group must differ
+abbrev pub run : List ℕ → List (List ℕ) → List Step → Result (List (List ℕ)) Verdict
+run bytes groups steps = run_from bytes groups [] 1 steps

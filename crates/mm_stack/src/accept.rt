@@ -3,69 +3,68 @@
 ghost use Rattle.std.specs.Prelude.{◌≡◌, ◌<◌, List, ℕ, length, IfOk};
 ghost use Rattle.mm_scope.specs.Contents.{labels_of, stated_at};
 ghost use Rattle.mm_scope.specs.declared.statement.Kind.TheVariants.{Theorem};
-ghost use Rattle.mm_stack.specs.Accepting.{outcome_at, outcome_of, verdict_by, verdict_of};
+ghost use Rattle.mm_stack.specs.Accepting.{verdict_at, verdict_of, Judges};
 
-use crate::decode::decode;
+use crate::decode::{decode, is_compressed};
 use crate::machine::{Machine, Stop};
-use crate::outcome::{Outcome, ProofFault, StackFault, Verdict};
+use crate::outcome::{ProofFault, StackFault, Verdict, VerifyFault};
 use crate::stack::Stack;
 use mm_scope::{Database, StmtId};
 use std::alloc::{AllocError as Memory, Global};
 
 /// What the stack at the end of a run says of a theorem with these symbols.
-fn outcome_at(stack: &Stack, goal: &[u32]) -> Outcome
-    ensures { result ≡ outcome_at goal.now stack.now }
+fn verdict_at(stack: &Stack, goal: &[u32]) -> Verdict
+    ensures { result ≡ verdict_at goal.now stack.now }
 {
     let count = stack.count();
     if count != 1 {
-        return Outcome::Faulty(StackFault::LeftOver(count as u64));
+        return Verdict::Faulty(StackFault::LeftOver(count as u64));
     }
     if stack.entry(0) == goal {
-        Outcome::Accepted
+        Verdict::Accepted
     } else {
-        Outcome::Faulty(StackFault::WrongResult)
+        Verdict::Faulty(StackFault::WrongResult)
     }
 }
 
-/// What comes of a theorem's proof.
-#[tactic(auto, unfolding(crate::specs::Accepting::outcome_of))]
-pub(crate) fn outcome_of(alloc: Global, db: &Database, id: StmtId) -> Result<Outcome, Memory>
-    requires own { id.0 < length (labels_of db.now) }
-    requires theorem { (stated_at db.now id.0).kind ≡ Theorem }
-    ensures { IfOk result (λ outcome. outcome ≡ outcome_of db.now id.0) }
-{
-    let steps = match decode(alloc, db, id) {
-        Ok(steps) => steps,
-        Err(ProofFault::Memory) => return Err(Memory),
-        Err(fault) => return Ok(Outcome::Faulty(StackFault::Proof(fault))),
-    };
-    let mut machine = Machine::new(alloc);
-    match machine.run(db, steps.as_slice()) {
-        Ok(()) => {
-            let goal = db.frame(id).conclusion.as_slice();
-            Ok(outcome_at(&machine.stack, goal))
-        }
-        Err(Stop::Ended(outcome)) => Ok(outcome),
-        Err(Stop::Memory) => Err(Memory),
-    }
-}
-
-fn verdict_by(outcome: Outcome) -> Verdict
-    ensures { result ≡ verdict_by outcome }
-{
-    match outcome {
-        Outcome::Accepted => Verdict::Accepted,
-        Outcome::Incomplete | Outcome::Faulty(_) => Verdict::Refused,
-    }
-}
-
-/// Verifies the proof of a theorem: it is accepted exactly where it spells steps whose run leaves the theorem's statement
-/// alone on the stack (Metamath book, section 4.1.4). The one error is want of memory.
-pub fn verify(alloc: Global, db: &Database, id: StmtId) -> Result<Verdict, Memory>
+/// What comes of a theorem's normal proof.
+#[tactic(auto, unfolding(crate::specs::Accepting::verdict_of))]
+fn verdict_of(alloc: Global, db: &Database, id: StmtId) -> Result<Verdict, Memory>
     requires own { id.0 < length (labels_of db.now) }
     requires theorem { (stated_at db.now id.0).kind ≡ Theorem }
     ensures { IfOk result (λ verdict. verdict ≡ verdict_of db.now id.0) }
 {
-    let outcome = outcome_of(alloc, db, id)?;
-    Ok(verdict_by(outcome))
+    let steps = match decode(alloc, db, id) {
+        Ok(steps) => steps,
+        Err(ProofFault::Memory) => return Err(Memory),
+        Err(fault) => return Ok(Verdict::Faulty(StackFault::Proof(fault))),
+    };
+    let parted = db.parted(alloc, id)?;
+    let mut machine = Machine::new(alloc);
+    match machine.run(db, &parted, steps.as_slice()) {
+        Ok(()) => {
+            let goal = db.frame(id).conclusion.as_slice();
+            Ok(verdict_at(&machine.stack, goal))
+        }
+        Err(Stop::Ended(verdict)) => Ok(verdict),
+        Err(Stop::Memory) => Err(Memory),
+    }
+}
+
+/// Verifies the proof of a theorem: what comes of it is the first of these. Its text has a fault; a step is `?`; a step
+/// has a fault; the stack at the end is not the theorem's statement alone. Otherwise it is accepted (Metamath book,
+/// section 4.1.4).
+///
+/// # Errors
+/// `Compressed` exactly where the proof's first token is `(`, and want of memory.
+pub fn verify(alloc: Global, db: &Database, id: StmtId) -> Result<Verdict, VerifyFault>
+    requires own { id.0 < length (labels_of db.now) }
+    requires theorem { (stated_at db.now id.0).kind ≡ Theorem }
+    ensures { Judges db.now id.0 result }
+{
+    if is_compressed(db, id) {
+        return Err(VerifyFault::Compressed);
+    }
+    let verdict = verdict_of(alloc, db, id)?;
+    Ok(verdict)
 }

@@ -3,7 +3,8 @@
 ghost use Rattle.std.specs.Prelude.{◌≡◌, ◌≤◌, ◌<◌, ◌+◌, ◌^◌, length, slice_range, All, IfOk, Ok, Err};
 ghost use Rattle.mm_scope.specs.Contents.{labels_of, stated_at};
 ghost use Rattle.mm_scope.specs.declared.statement.Kind.TheVariants.{Theorem};
-ghost use Rattle.mm_stack.specs.Decoding.{step_of, steps_in, decoded};
+ghost use Rattle.mm_tokens.specs.Pieces.{pieces_of, tokens_in};
+ghost use Rattle.mm_stack.specs.Decoding.{step_of, steps_in, decoded, begins_list, is_compressed};
 ghost use Rattle.mm_stack.specs.Machines.{IsOwn, GivesSteps};
 
 use crate::outcome::ProofFault;
@@ -78,4 +79,29 @@ pub fn decode(alloc: Global, db: &Database, id: StmtId) -> Result<Vec<Step>, Pro
         return Err(ProofFault::EmptyProof);
     }
     Ok(steps)
+}
+
+/// Whether the first token of a proof is `(`.
+fn begins_list(proof: &[u8]) -> bool
+    ensures { result ≡ begins_list proof.now (tokens_in (pieces_of proof.now)) }
+{
+    let mut scanner = Scanner::new(proof);
+    while let Some(piece) = scanner.next() {
+        if let Piece::Token(token) = piece {
+            return &proof[token.start as usize..token.end as usize] == b"(".as_slice();
+        }
+    }
+    false
+}
+
+/// Whether a theorem's proof is compressed: its first token is `(`.
+pub fn is_compressed(db: &Database, id: StmtId) -> bool
+    requires own { id.0 < length (labels_of db.now) }
+    requires theorem { (stated_at db.now id.0).kind ≡ Theorem }
+    ensures { result ≡ is_compressed db.now id.0 }
+{
+    match db.proof_span(id) {
+        Some(span) => begins_list(&db.bytes()[span.start as usize..span.end as usize]),
+        None => false,
+    }
 }

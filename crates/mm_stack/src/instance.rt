@@ -15,7 +15,7 @@ use std::slice;
 const MOST_SYMBOLS: usize = 32_768;
 
 /// What stands for a symbol.
-fn value<'a>(values: &Values, stack: &'a Stack, symbol: &'a u32) -> &'a [u32]
+pub fn value<'a>(values: &Values, stack: &'a Stack, symbol: &'a u32) -> &'a [u32]
     ensures { result.now ≡ value_in values.now stack.now symbol.now }
 {
     match values.get(*symbol) {

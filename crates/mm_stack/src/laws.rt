@@ -9,7 +9,7 @@ ghost use Rattle.mm_stack.specs.Laws.{AreApart, Substitutes, hypotheses_of, vari
 /// hypotheses and the entry pushed is its conclusion (Metamath book, section 4.1.4). This holds where its `$f` differ in
 /// their variables, and have no variable as a typecode.
 pub fn assertions_substitute(bytes: &[u8])
-    ensures { (a : Stated) (k : ℕ) (stack next : List (List ℕ)) → AreApart (variables_of (hypotheses_of bytes.now a)) (hypotheses_of bytes.now a) → applied bytes.now a stack k ≡ Ok next → Substitutes bytes.now a stack next }
+    ensures { (a : Stated) (k : ℕ) (groups stack next : List (List ℕ)) → AreApart (variables_of (hypotheses_of bytes.now a)) (hypotheses_of bytes.now a) → applied bytes.now groups a stack k ≡ Ok next → Substitutes bytes.now a stack next }
 {
     let _ = bytes;
 }

@@ -7,6 +7,7 @@
 
 mod accept;
 mod decode;
+mod differing;
 mod instance;
 mod laws;
 mod machine;
@@ -21,4 +22,4 @@ mod verdicts;
 
 pub use accept::verify;
 pub use laws::assertions_substitute;
-pub use outcome::Verdict;
+pub use outcome::{ProofFault, StackFault, Verdict, VerifyFault};

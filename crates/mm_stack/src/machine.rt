@@ -9,18 +9,20 @@ ghost use Rattle.mm_stack.specs.Running.{arguments, has_typecode, bind, substitu
 ghost use Rattle.mm_stack.specs.Machines.{Means, IsOwn, GivesStack};
 ghost use Rattle.mm_stack.specs.declared.machine.Stop.TheVariants.{Memory};
 
+use crate::differing::violation;
 use crate::instance::{fill, is_instance};
-use crate::outcome::{Outcome, StackFault};
+use crate::outcome::{StackFault, Verdict};
 use crate::stack::Stack;
 use crate::step::Step;
 use crate::values::Values;
+use mm_distinct::Parted;
 use mm_scope::{Database, Kind, StmtId};
 use std::alloc::{AllocError, Global};
 
 /// Why a run stops before its end.
 #[derive(Clone, Copy, Debug, PartialEq, Eq)]
 pub enum Stop {
-    Ended(Outcome),
+    Ended(Verdict),
     Memory,
 }
 
@@ -41,9 +43,9 @@ pub struct Machine {
 }
 
 fn faulty(fault: StackFault) -> Stop
-    ensures { result ≡ Stop.Ended (Outcome.Faulty fault) }
+    ensures { result ≡ Stop.Ended (Verdict.Faulty fault) }
 {
-    Stop::Ended(Outcome::Faulty(fault))
+    Stop::Ended(Verdict::Faulty(fault))
 }
 
 /// Lets the entry of a stack give its value to the variable of a `$f`; `false` exactly where the typecode differs.
@@ -145,9 +147,9 @@ impl Machine {
     }
 
     /// Runs an assertion as the step with this number.
-    fn apply(&mut self, db: &Database, id: StmtId, number: u64) -> Result<(), Stop>
+    fn apply(&mut self, db: &Database, parted: &Parted, id: StmtId, number: u64) -> Result<(), Stop>
         requires { id.0 < length (labels_of db.now) }
-        ensures { GivesStack self.new.stack result (applied db.now (stated_at db.now id.0) self.old.stack number) }
+        ensures { GivesStack self.new.stack result (applied db.now parted.now (stated_at db.now id.0) self.old.stack number) }
     {
         let frame = db.frame(id);
         let mandatory = frame.mandatory.as_slice();
@@ -161,6 +163,10 @@ impl Machine {
         if !all_agree(&self.values, &self.stack, db, mandatory) {
             return Err(faulty(StackFault::EssentialMismatch(number)));
         }
+        let pairs = frame.pairs.as_slice();
+        if let Some(fault) = violation(db, parted, number, &self.values, &self.stack, pairs) {
+            return Err(faulty(fault));
+        }
         let symbols = frame.conclusion.as_slice();
         if !fill(&self.values, &self.stack, symbols, &mut self.pushed)? {
             return Err(faulty(StackFault::TooLong(number)));
@@ -171,28 +177,28 @@ impl Machine {
     }
 
     /// Runs the step with this number.
-    fn step(&mut self, db: &Database, step: Step, number: u64) -> Result<(), Stop>
+    fn step(&mut self, db: &Database, parted: &Parted, step: Step, number: u64) -> Result<(), Stop>
         requires { IsOwn db.now step }
-        ensures { GivesStack self.new.stack result (run_step db.now self.old.stack number step) }
+        ensures { GivesStack self.new.stack result (run_step db.now parted.now self.old.stack number step) }
     {
         match step {
             Step::Hyp(id) => {
                 self.stack.push(db.frame(id).conclusion.as_slice())?;
                 Ok(())
             }
-            Step::Apply(id) => self.apply(db, id, number),
-            Step::Unknown => Err(Stop::Ended(Outcome::Incomplete)),
+            Step::Apply(id) => self.apply(db, parted, id, number),
+            Step::Unknown => Err(Stop::Ended(Verdict::Incomplete)),
         }
     }
 
-    /// Runs the steps from an empty stack.
-    pub fn run(&mut self, db: &Database, steps: &[Step]) -> Result<(), Stop>
+    /// Runs the steps from an empty stack, where variables of these groups must differ.
+    pub fn run(&mut self, db: &Database, parted: &Parted, steps: &[Step]) -> Result<(), Stop>
         requires own { All (IsOwn db.now) steps.now }
         requires empty { self.old.stack ≡ [] }
-        ensures { GivesStack self.new.stack result (run db.now steps.now) }
+        ensures { GivesStack self.new.stack result (run db.now parted.now steps.now) }
     {
         for (index, step) in steps.iter().enumerate() {
-            self.step(db, *step, index as u64 + 1)?;
+            self.step(db, parted, *step, index as u64 + 1)?;
         }
         Ok(())
     }

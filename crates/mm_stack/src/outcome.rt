@@ -1,17 +1,13 @@
 //! What comes of a proof.
 
 ghost use Rattle.std.specs.Prelude.{◌≡◌};
+ghost use Rattle.mm_stack.specs.Faults.{number_of, place_of};
 ghost use Rattle.mm_stack.specs.declared.outcome.ProofFault.TheVariants.{Memory};
+ghost use Rattle.mm_stack.specs.declared.outcome.VerifyFault.TheVariants.{Memory as OutOfMemory};
 
-use std::alloc::AllocFailed;
+use mm_scope::Sym;
+use std::alloc::{AllocError, AllocFailed};
 use thiserror::Error;
-
-/// Whether a proof is accepted.
-#[derive(Clone, Copy, Debug, PartialEq, Eq)]
-pub enum Verdict {
-    Accepted,
-    Refused,
-}
 
 /// Why a proof's text spells no steps. Tokens are counted from 1.
 #[derive(Clone, Copy, Debug, PartialEq, Eq, Error)]
@@ -26,6 +22,33 @@ pub enum ProofFault {
     EmptyProof,
     #[error("out of memory")]
     Memory,
+}
+
+impl ProofFault {
+    /// The number of the proof fault; 0 for want of memory, which is no fault of a proof.
+    pub fn number(&self) -> u8
+        ensures { result ≡ number_of self.now }
+    {
+        match *self {
+            ProofFault::NoSuchLabel(_) => 1,
+            ProofFault::NotEarlier(_) => 2,
+            ProofFault::HypothesisNotActive(_) => 3,
+            ProofFault::EmptyProof => 9,
+            ProofFault::Memory => 0,
+        }
+    }
+
+    /// The token that has it, counted from 1; 0 where it is of no token.
+    pub fn place(&self) -> u64
+        ensures { result ≡ place_of self.now }
+    {
+        match *self {
+            ProofFault::NoSuchLabel(token)
+            | ProofFault::NotEarlier(token)
+            | ProofFault::HypothesisNotActive(token) => token,
+            ProofFault::EmptyProof | ProofFault::Memory => 0,
+        }
+    }
 }
 
 impl<T: Drop> From<AllocFailed<T>> for ProofFault {
@@ -47,6 +70,10 @@ pub enum StackFault {
     FloatMismatch(u64),
     /// An entry differs from the instance of the `$e` hypothesis that it stands for.
     EssentialMismatch(u64),
+    /// The step needs two variables to differ, and they are this one.
+    SameVariable(u64, Sym),
+    /// The step needs these two variables to differ, and no active `$d` of the theorem says so.
+    MissingDistinct(u64, Sym, Sym),
     /// At the end there are this many entries, and not one.
     LeftOver(u64),
     /// The one entry at the end is another statement than the theorem.
@@ -57,10 +84,29 @@ pub enum StackFault {
 
 /// What comes of a proof.
 #[derive(Clone, Copy, Debug, PartialEq, Eq)]
-pub enum Outcome {
+pub enum Verdict {
     /// It proves its theorem.
     Accepted,
     /// It has a step `?`, and no fault before it.
     Incomplete,
+    /// Its first fault.
     Faulty(StackFault),
+}
+
+/// Why a proof is not judged.
+#[derive(Clone, Copy, Debug, PartialEq, Eq, Error)]
+pub enum VerifyFault {
+    /// It is compressed: its first token is `(`. Compressed proofs are not read yet.
+    #[error("the proof is compressed")]
+    Compressed,
+    #[error("out of memory")]
+    Memory,
+}
+
+impl From<AllocError> for VerifyFault {
+    ghost from_gives = { λ _ e. e ≡ OutOfMemory };
+
+    fn from(_e: AllocError) -> VerifyFault {
+        VerifyFault::Memory
+    }
 }

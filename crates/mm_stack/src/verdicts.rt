@@ -1,8 +1,8 @@
 //! Tests of verdicts.
 
-use crate::accept::{outcome_of, verify};
-use crate::outcome::{Outcome, ProofFault, StackFault, Verdict};
-use mm_scope::{Database, Kind};
+use crate::accept::verify;
+use crate::outcome::{ProofFault, StackFault, Verdict, VerifyFault};
+use mm_scope::{Database, Kind, Sym};
 use std::test::Fail;
 
 /// The statements before a theorem.
@@ -11,6 +11,7 @@ $v P Q $.
 wp $f wff P $.
 wq $f wff Q $.
 wim $a wff ( P -> Q ) $.
+ten $a wff P P P P P P P P P P $.
 ax $a |- ( P -> P ) $.
 ${
 up.1 $e |- P $.
@@ -18,20 +19,29 @@ up $a |- ( Q -> P ) $.
 $}
 t $p |- ( Q -> Q ) $= ";
 
-/// What comes of this proof of `|- ( Q -> Q )`.
-fn outcome(rt: &HostRuntime, proof: &str) -> Result<Outcome, Fail> {
-    let text = format!(in rt.alloc(); "{BEFORE}{proof} $.")?;
+/// What comes of the proof of the theorem with the label.
+fn judged(
+    rt: &HostRuntime,
+    text: String,
+    label: &[u8],
+) -> Result<Result<Verdict, VerifyFault>, Fail> {
     let read = Database::read(rt.alloc(), text.into_bytes());
     let Ok(db) = read else {
         return Err("not read".into());
     };
-    let Some(id) = db.find(b"t") else {
+    let Some(id) = db.find(label) else {
         return Err("not found".into());
     };
     match db.kind(id) {
-        Kind::Theorem => Ok(outcome_of(rt.alloc(), &db, id)?),
+        Kind::Theorem => Ok(verify(rt.alloc(), &db, id)),
         _ => Err("no theorem".into()),
     }
+}
+
+/// What comes of this proof of `|- ( Q -> Q )`.
+fn verdict(rt: &HostRuntime, proof: &str) -> Result<Result<Verdict, VerifyFault>, Fail> {
+    let text = format!(in rt.alloc(); "{BEFORE}{proof} $.")?;
+    judged(rt, text, b"t")
 }
 
 #[test]
@@ -49,12 +59,54 @@ fn proofs_come_out(rt: HostRuntime) -> Result<(), Fail> {
         ("wp wq wq ax up", StackFault::EssentialMismatch(5)),
         ("wq wq", StackFault::LeftOver(2)),
         ("wp ax", StackFault::WrongResult),
+        ("wq ten ten ten ten ten ax", StackFault::TooLong(6)),
     ];
     for (proof, fault) in faulty {
-        assert_eq!(rt; outcome(&rt, proof)?, Outcome::Faulty(fault), "{proof}");
+        assert_eq!(rt; verdict(&rt, proof)?, Ok(Verdict::Faulty(fault)), "{proof}");
     }
-    assert_eq!(rt; outcome(&rt, "wq ? wim")?, Outcome::Incomplete);
-    assert_eq!(rt; outcome(&rt, "wq ax")?, Outcome::Accepted);
+    assert_eq!(rt; ProofFault::NotEarlier(2).number(), 2);
+    assert_eq!(rt; ProofFault::NotEarlier(2).place(), 2);
+    assert_eq!(rt; verdict(&rt, "wq ? wim")?, Ok(Verdict::Incomplete));
+    assert_eq!(rt; verdict(&rt, "wq ax")?, Ok(Verdict::Accepted));
+    assert_eq!(rt;
+        verdict(&rt, " $( c $) ( ax ) AB")?,
+        Err(VerifyFault::Compressed)
+    );
+    Ok(())
+}
+
+/// Statements whose variables must differ, and theorems of which one says so.
+const DIST: &str = "$c |- set = $.
+$v x y z $.
+vx $f set x $.
+vy $f set y $.
+vz $f set z $.
+${
+$d x y $.
+ne $a |- x = y $.
+lp.1 $e |- x = y $.
+lp $a |- x = x $.
+$}
+${
+$d x z $.
+p3 $p |- x = x $= vx vz vx vz ne lp $.
+p5 $p |- x = x $= vx vx vx vx ne lp $.
+$}
+p4 $p |- x = x $= vx vz vx vz ne lp $.
+";
+
+#[test]
+fn variables_differ(rt: HostRuntime) -> Result<(), Fail> {
+    let x = Sym(3);
+    let z = Sym(5);
+    for (label, verdict) in [
+        (b"p3".as_slice(), Verdict::Accepted),
+        (b"p4", Verdict::Faulty(StackFault::MissingDistinct(5, x, z))),
+        (b"p5", Verdict::Faulty(StackFault::SameVariable(5, x))),
+    ] {
+        let text = String::from_str(rt.alloc(), DIST)?;
+        assert_eq!(rt; judged(&rt, text, label)?, Ok(verdict));
+    }
     Ok(())
 }
 
@@ -87,17 +139,6 @@ tt tze tpl tt tt a1 mp mp $.
 #[test]
 fn the_book_s_theorem_is_accepted(rt: HostRuntime) -> Result<(), Fail> {
     let text = String::from_str(rt.alloc(), DEMO0)?;
-    let Ok(db) = Database::read(rt.alloc(), text.into_bytes()) else {
-        return Err("not read".into());
-    };
-    let Some(id) = db.find(b"th1") else {
-        return Err("not found".into());
-    };
-    match db.kind(id) {
-        Kind::Theorem => {
-            assert_eq!(rt; verify(rt.alloc(), &db, id)?, Verdict::Accepted);
-            Ok(())
-        }
-        _ => Err("no theorem".into()),
-    }
+    assert_eq!(rt; judged(&rt, text, b"th1")?, Ok(Verdict::Accepted));
+    Ok(())
 }

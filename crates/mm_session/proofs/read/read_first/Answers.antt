@@ -1,5 +1,5 @@
-use Rattle.std.proofs.Common.{true, Err, ap, refl}
-use Rattle.mm_session.proofs.EffectLemmas.{run_found, run_fault, run_starve, read_whole, read_other, read_none, reply_sound}
+use Rattle.std.proofs.Common.{true, refl}
+use Rattle.mm_session.proofs.EffectLemmas.{run_found, run_fault, run_starve, read_whole, read_faulty, refused_sound, read_none, reply_sound}
 use Rattle.mm_session.proofs.read.read_first.Goals as goal
 
 pub returns-in-Err-Failed-clause-effect : goal.returns-in-Err-Failed-clause-effect
@@ -18,15 +18,12 @@ pub returns-in-Ok-clause-effect : goal.returns-in-Ok-clause-effect
 returns-in-Ok-clause-effect g c = run_found g.F.Files c.args.state.now c.args.name.now c.args.files.now c.fetch.new.self _ _ _
     c.in-Ok-Some.ensures.found.file c.in-Ok-Some.ensures.found.same
     (read_whole c.args.state.now c.args.name.now c.in-Ok-Some.ensures.found.file c.in-Ok-Some.fetched c.in-Ok.database c.in-Ok.text
-    (rw c.in-Ok-Some.field-0-is at c.in-Ok-Some.ensures.found.finds) c.in-Ok.ensures.built.1 c.in-Ok.ensures.built.0 c.in-Ok.ensures.read.0 c.in-Ok.ensures.read.1)
+    (rw c.in-Ok-Some.field-0-is at c.in-Ok-Some.ensures.found.finds) c.in-Ok.ensures.sound c.in-Ok.ensures.read.0 c.in-Ok.ensures.read.1)
     c.fetch.ensures.kept c.in-Ok-Some.ensures.number refl
 
-pub returns-in-Err-NotBuilt-clause-effect : goal.returns-in-Err-NotBuilt-clause-effect
-returns-in-Err-NotBuilt-clause-effect g c = rw c.not_built.ensures (run_found g.F.Files c.args.state.now c.args.name.now c.args.files.now c.fetch.new.self _ c.args.state.now _
+pub returns-in-Err-clause-effect : goal.returns-in-Err-clause-effect
+returns-in-Err-clause-effect g c = run_found g.F.Files c.args.state.now c.args.name.now c.args.files.now c.fetch.new.self _ c.args.state.now _
     c.in-Ok-Some.ensures.found.file c.in-Ok-Some.ensures.found.same
-    (read_other c.args.state.now c.args.name.now c.in-Ok-Some.ensures.found.file c.in-Ok-Some.fetched _
-    (rw c.in-Ok-Some.field-0-is at c.in-Ok-Some.ensures.found.finds) (c.in-Err-NotBuilt.ensures.not_built (ap Err c.in-Err-NotBuilt.field-0-is)) refl)
-    c.fetch.ensures.kept c.in-Ok-Some.ensures.number refl)
-
-pub returns-in-Err-Memory-load-clause-effect : goal.returns-in-Err-Memory-load-clause-effect
-returns-in-Err-Memory-load-clause-effect g c = run_starve g.F.Files c.args.state.now c.args.name.now c.args.files.now c.fetch.new.self c.fetch.ensures.kept c.in-Ok-Some.ensures.number
+    (read_faulty c.args.state.now c.args.name.now c.in-Ok-Some.ensures.found.file c.in-Ok-Some.fetched c.in-Err.fault c.refuse.result
+    (rw c.in-Ok-Some.field-0-is at c.in-Ok-Some.ensures.found.finds) c.in-Err.ensures.fault c.refuse.ensures)
+    c.fetch.ensures.kept c.in-Ok-Some.ensures.number (refused_sound c.in-Err.fault c.refuse.result c.refuse.ensures)

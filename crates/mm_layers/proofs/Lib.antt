@@ -1,0 +1,2 @@
+pub mod LookBack
+mod Chains
