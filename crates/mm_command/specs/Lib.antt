@@ -1,0 +1,9 @@
+pub mod Words
+pub mod Keywords
+pub mod Names
+pub mod Grammar
+pub mod Table
+pub mod Spelled
+pub mod Taking
+pub mod Given
+pub mod Meanings
