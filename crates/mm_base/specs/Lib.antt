@@ -3,3 +3,4 @@ pub mod Memory
 pub mod Name
 pub mod Outside
 pub mod Sink
+pub mod Source

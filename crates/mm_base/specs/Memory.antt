@@ -47,6 +47,11 @@ pub record SinkState : Type 0 where
   pub kept : Kept
   pub calls : CallCount
 
+-- the value of a `MemSource`
+pub record SourceState : Type 0 where
+  pub left : List ℕ
+  pub calls : CallCount
+
 -- the value of a `MemFiles`
 pub record FilesState : Type 0 where
   pub files : List NamedFile

@@ -1,26 +1,35 @@
-//! The outside of a session: where text goes and where files lie, and kinds of both in memory.
+//! The outside of a session: where input comes from, where text goes and where files lie, and kinds of these in memory.
 #![tactic(auto)]
 
 mod buffer;
 mod calls;
 mod fault;
 mod files;
+mod made;
 mod mem_files;
 mod mem_sink;
+mod mem_source;
 mod name;
 mod sink;
+mod source;
 mod store;
 mod sure_files;
 mod sure_sink;
+mod sure_source;
 #[cfg(test)]
 mod tests;
+mod unread;
 
 pub use fault::{Failed, FilesFault};
 pub use files::{Fetched, Files};
+pub use made::{Made, Steps};
 pub use mem_files::MemFiles;
 pub use mem_sink::MemSink;
+pub use mem_source::MemSource;
 pub use name::is_name;
 pub use sink::{Sink, write_all};
+pub use source::Source;
 pub use std::alloc::AllocError as Memory;
 pub use sure_files::SureFiles;
 pub use sure_sink::SureSink;
+pub use sure_source::SureSource;

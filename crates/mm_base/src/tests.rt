@@ -1,8 +1,12 @@
+ghost use Rattle.std.specs.Prelude.{◌≡◌, ◌<◌};
+
 use crate::{
-    Failed, Fetched, Files, FilesFault, MemFiles, MemSink, Sink, SureFiles, SureSink, is_name,
-    write_all,
+    Failed, Fetched, Files, FilesFault, Made, MemFiles, MemSink, MemSource, Sink, Source, Steps,
+    SureFiles, SureSink, SureSource, is_name, write_all,
 };
 use std::alloc::Global;
+use std::marker::Brand;
+use std::sync::ledger::{Blank, Ledger};
 use std::test::Fail;
 
 #[test]
@@ -161,4 +165,49 @@ fn sure_files_never_fail(rt: HostRuntime) -> Result<(), Fail> {
     assert!(rt; is_cut(&fetch(&mut files, alloc, second, 9), b"", false));
     assert!(rt; matches!(fetch(&mut files, alloc, b"c", 9), Ok(None)));
     Ok(())
+}
+
+fn read<S: Source>(source: &mut S, buf: &mut [u8]) -> Result<usize, Failed> {
+    source.read(buf)
+}
+
+#[test]
+fn mem_source_counts_its_calls(rt: HostRuntime) -> Result<(), Fail> {
+    let mut source = MemSource::new(rt.alloc(), b"abcde", &[2])?;
+    let mut buf = *b"----";
+    for (answer, bytes) in [
+        (Ok(4), b"abcd"),
+        (Err(Failed), b"abcd"),
+        (Ok(1), b"ebcd"),
+        (Ok(0), b"ebcd"),
+    ] {
+        assert_eq!(rt; read(&mut source, &mut buf), answer);
+        assert_eq!(rt; buf, *bytes);
+    }
+    Ok(())
+}
+
+#[test]
+fn sure_source_never_fails(rt: HostRuntime) -> Result<(), Fail> {
+    let mut source = SureSource::new(rt.alloc(), b"abc")?;
+    let mut buf = *b"--";
+    for (answer, bytes) in [(Ok(2), b"ab"), (Ok(1), b"cb"), (Ok(0), b"cb")] {
+        assert_eq!(rt; read(&mut source, &mut buf), answer);
+        assert_eq!(rt; buf, *bytes);
+    }
+    Ok(())
+}
+
+fn made_in<L: Ledger>(blank: Blank)
+    requires name { blank.name ≡ L.name }
+    requires parts { blank.parts ≡ L.parts }
+    requires some { 0 < L.parts }
+{
+    let mut steps = Steps::<L>::new(blank);
+    let _node = Made::new(&mut steps);
+}
+
+#[test]
+fn a_node_is_made(rt: HostRuntime) {
+    made_in::<Brand>(Blank::new(1));
 }

@@ -1,0 +1,5 @@
+pub mod LineLemmas
+pub mod NextLemmas
+pub mod PieceLemmas
+pub mod ReadingLemmas
+pub mod RunLemmas

@@ -1,0 +1,5 @@
+pub mod Lines
+pub mod Parts
+pub mod Reader
+pub mod Run
+pub mod State

@@ -1,0 +1,6 @@
+pub mod Equations
+pub mod Trees
+pub mod Depths
+pub mod Sizes
+pub mod Kept
+pub mod Read

@@ -1,0 +1,4 @@
+pub mod Shape
+pub mod Premises
+pub mod Sources
+pub mod Valid

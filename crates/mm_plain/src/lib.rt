@@ -1,0 +1,10 @@
+//! Proof trees as contracts see them: their steps, and when a proof is valid for a theorem of a database.
+//!
+//! No function of the program takes or makes a plain tree; it is what a tree of nodes means.
+#![tactic(auto)]
+
+mod laws;
+mod plain;
+
+pub use laws::{sizes_add_up, valid_proofs_stay_valid};
+pub use plain::Plain;

@@ -1,0 +1,4 @@
+pub mod Replaced
+pub mod Keys
+pub mod Prefixes
+pub mod Numbers

@@ -1,0 +1,5 @@
+pub mod Symbols
+pub mod Substitutions
+pub mod Applied
+pub mod Statements
+pub mod Brackets

@@ -1,0 +1,87 @@
+//! Substitutions.
+
+ghost use Rattle.std.specs.Prelude.{◌≡◌, ◌≤◌, ◌-◌, ◌∷◌, [], ◌++◌, length, map, slice_get, OnOk, OnErr, IfOk, MatchOption, None, Some};
+ghost use Rattle.mm_subst.specs.Substitutions.{value_at};
+
+use crate::string::WStr;
+use crate::symbol::WSym;
+use std::alloc::{AllocError, Global};
+use std::marker::Model;
+
+/// A substitution, seen as the list of its pairs of a key and a value. No key comes twice.
+#[derive(Debug, Drop)]
+pub struct Subst {
+    pairs: Vec<(WSym, WStr)>,
+}
+
+impl Model for Subst {
+    ghost use Rattle.std.specs.Prelude.{List};
+    ghost use Rattle.mm_subst.specs.declared.symbol.WSym.{WSym};
+
+    ghost Value = { List (WSym × List WSym) };
+
+    ghost use Rattle.mm_subst.specs.Substitutions.{HasDistinctKeys};
+
+    ghost view = { λ s. s.pairs.items };
+
+    ghost invariant = { λ s. HasDistinctKeys s.pairs.items };
+}
+
+impl Subst {
+    /// The substitution without a pair. This takes no memory.
+    pub fn new(alloc: Global) -> Subst
+        ensures { result ≡ [] }
+    {
+        Subst {
+            pairs: Vec::new(alloc),
+        }
+    }
+
+    /// Appends a pair. Where that is refused the value is dropped, and the pairs are as before.
+    pub fn put(&mut self, _alloc: Global, key: WSym, value: WStr) -> Result<(), AllocError>
+        requires { value_at self.old key ≡ None }
+        ensures ok { OnOk result (self.new ≡ self.old ++ (key, value) ∷ []) }
+        ensures err { OnErr result (self.new ≡ self.old) }
+    {
+        self.pairs.push((key, value))?;
+        Ok(())
+    }
+
+    /// The value of a key; `None` exactly where no pair has the key.
+    pub fn get(&self, key: WSym) -> Option<&WStr>
+        ensures { MatchOption result (value_at self.now key ≡ None) (λ v. value_at self.now key ≡ Some v.now) }
+    {
+        for (k, v) in &self.pairs {
+            if k.is_same(key) {
+                return Some(v);
+            }
+        }
+        None
+    }
+
+    /// How many pairs there are.
+    pub fn count(&self) -> u64
+        ensures { result ≡ length self.now }
+    {
+        self.pairs.len() as u64
+    }
+
+    /// The key of a pair, counted from 1.
+    pub fn key(&self, k: u64) -> WSym
+        requires { (1 ≤ k) × (k ≤ length self.now) }
+        ensures { slice_get (map (λ p. p.0) self.now) (k - 1) ≡ Some result }
+    {
+        self.pairs[k as usize - 1].0
+    }
+
+    /// The same substitution once more.
+    pub fn copy(&self, alloc: Global) -> Result<Subst, AllocError>
+        ensures { IfOk result (λ s. s ≡ self.now) }
+    {
+        let mut pairs = Vec::new(alloc);
+        for (k, v) in &self.pairs {
+            pairs.push((*k, v.copy(alloc)?))?;
+        }
+        Ok(Subst { pairs })
+    }
+}

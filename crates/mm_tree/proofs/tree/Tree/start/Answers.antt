@@ -1,0 +1,15 @@
+use Rattle.std.proofs.Common.{◌≡◌, List, sym, ◌∙◌, ap, subst}
+use Rattle.mm_subst.specs.declared.symbol.WSym.{WSym}
+use Rattle.mm_subst.specs.Statements.{statement_of}
+use Rattle.mm_plain.specs.Shape.{Proof, unknown}
+use Rattle.mm_plain.specs.Valid.{IsValid}
+use Rattle.mm_plain.proofs.Kept.{valid-start}
+use Rattle.mm_tree.proofs.Grown.{proof_of}
+use Rattle.mm_tree.proofs.tree.Tree.start.Goals as goal
+
+pub returns-clause-valid : goal.returns-clause-valid
+returns-clause-valid c =
+    let statement = statement_of c.args.db.now c.args.at.0 in
+    let is : c.start_in.result.proof ≡ proof_of (unknown statement) 1 = c.start_in.ensures ∙ ap (λ (t : List WSym). proof_of (unknown t) 1) c.in_ok-target.ensures in
+    let P : Proof → Type 0 = λ p. IsValid c.args.db.now c.args.at.0 statement p in
+    λ h. subst P (sym is) (valid-start c.args.db.now c.args.at.0 statement h)

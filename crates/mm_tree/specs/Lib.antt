@@ -1,0 +1,4 @@
+pub mod View
+pub mod Falls
+pub mod Trees
+pub mod Placed

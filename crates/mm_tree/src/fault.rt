@@ -1,0 +1,29 @@
+//! Why a tree does not grow.
+
+ghost use Rattle.std.specs.Prelude.{◌≡◌};
+ghost use Rattle.mm_tree.specs.declared.fault.GraftFault.TheVariants.{Memory};
+
+use std::alloc::AllocError;
+use thiserror::Error;
+
+/// Why a tree does not grow.
+#[derive(Clone, Copy, Debug, PartialEq, Eq, Error)]
+pub enum GraftFault {
+    /// The result would have more than 1,000,000 steps.
+    #[error("too many steps")]
+    TooManySteps,
+    /// The result would have more than 2,000 levels.
+    #[error("too deep")]
+    TooDeep,
+    /// Memory ran out.
+    #[error("out of memory")]
+    Memory,
+}
+
+impl From<AllocError> for GraftFault {
+    ghost from_gives = { λ _ e. e ≡ Memory };
+
+    fn from(_e: AllocError) -> GraftFault {
+        GraftFault::Memory
+    }
+}
