@@ -49,9 +49,9 @@ impl Marks {
     }
 
     /// Makes room for a number's stamp.
-    fn reach(&mut self, number: u32) -> Result<(), AllocError>
+    pub(crate) fn reach(&mut self, number: u32) -> Result<(), AllocError>
         ensures reached { OnOk result (number < length self.new) }
-        ensures same { OnOk result ((n : ℕ) → is_marked self.new n ≡ is_marked self.old n) }
+        ensures same { (n : ℕ) → is_marked self.new n ≡ is_marked self.old n }
     {
         if number as usize >= self.stamps.len() {
             self.stamps.resize(number as usize + 1, 0)?;
@@ -59,7 +59,7 @@ impl Marks {
         Ok(())
     }
 
-    fn stamp(&mut self, number: u32)
+    pub(crate) fn stamp(&mut self, number: u32)
         requires { number < length self.old }
         ensures { (n : ℕ) → is_marked self.new n ≡ (is_marked self.old n || n == number) }
     {

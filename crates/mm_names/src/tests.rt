@@ -1,5 +1,6 @@
 //! Each call once.
 
+use crate::gathered::Gathered;
 use crate::marks::Marks;
 use crate::names::Names;
 use crate::table::{Found, NOTHING, Standing, SymbolTable};
@@ -54,5 +55,19 @@ fn marks_numbers(rt: HostRuntime) -> Result<(), Fail> {
     assert!(rt; !marks.is_marked(2));
     marks.clear();
     assert!(rt; !marks.is_marked(3));
+    Ok(())
+}
+
+#[test]
+fn gathers_numbers(rt: HostRuntime) -> Result<(), Fail> {
+    let mut gathered = Gathered::new(rt.alloc());
+    gathered.push(3)?;
+    gathered.push(1)?;
+    assert_eq!(rt; gathered.as_slice(), [3, 1].as_slice());
+    assert!(rt; gathered.contains(1));
+    assert!(rt; !gathered.contains(2));
+    gathered.clear();
+    assert!(rt; gathered.is_empty());
+    assert!(rt; !gathered.contains(3));
     Ok(())
 }

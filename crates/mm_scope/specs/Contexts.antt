@@ -60,7 +60,7 @@ state_of r = record {
   begun = r.begun;
   label = r.label.items;
   described = r.described;
-  buffer = r.buffer.items;
+  buffer = r.buffer;
   proof = r.proof;
   comment = r.comment;
 }

@@ -17,7 +17,7 @@ use crate::mode::Mode;
 use crate::statement::{Kind, Statement};
 use mm_distinct::Partings;
 use mm_layers::Layers;
-use mm_names::{Marks, NOTHING, Names, Standing, SymbolTable};
+use mm_names::{Gathered, Marks, NOTHING, Names, Standing, SymbolTable};
 use mm_tokens::Span;
 use mm_words::{Word, is_bad_label, is_bad_symbol};
 use std::alloc::Global;
@@ -43,7 +43,7 @@ pub struct Reader {
     pub begun: u64,
     pub label: Vec<u8>,
     pub described: Option<Span>,
-    pub buffer: Vec<u32>,
+    pub buffer: Gathered,
     pub proof: u64,
     pub comment: Option<Span>,
     pub marks: Marks,
@@ -212,7 +212,7 @@ impl Reader {
         if !standing.constant && !standing.active {
             return Err(ReadFault::NotActive(place));
         }
-        if standing.constant || contains(&self.buffer, found.number) {
+        if standing.constant || self.buffer.contains(found.number) {
             return Err(ReadFault::DistinctForm(place));
         }
         if self.is_full() {
@@ -361,7 +361,7 @@ impl Reader {
         if self.buffer.len() != 2 {
             return Err(ReadFault::WrongForm(place));
         }
-        let variable = self.buffer[1];
+        let variable = self.buffer.as_slice()[1];
         let standing = self.symbols.standing(variable);
         self.symbols.set(
             variable,
@@ -391,7 +391,7 @@ impl Reader {
     /// The end of `$e`.
     #[tactic(auto, unfolding(crate::specs::Contexts::add_to))]
     fn end_essential(&mut self, alloc: Global, place: u64) -> Result<(), ReadFault>
-        ensures { Gives self.new result (end_statement add_to (state_of self.old) (essential self.old.label.items self.old.buffer.items self.old.described) place) }
+        ensures { Gives self.new result (end_statement add_to (state_of self.old) (essential self.old.label.items self.old.buffer self.old.described) place) }
     {
         if self.buffer.is_empty() {
             return Err(ReadFault::WrongForm(place));
@@ -402,7 +402,7 @@ impl Reader {
     /// The end of `$a`.
     #[tactic(auto, unfolding(crate::specs::Contexts::add_to))]
     fn end_axiom(&mut self, alloc: Global, place: u64) -> Result<(), ReadFault>
-        ensures { Gives self.new result (end_statement add_to (state_of self.old) (asserted self.old.label.items self.old.buffer.items self.old.described) place) }
+        ensures { Gives self.new result (end_statement add_to (state_of self.old) (asserted self.old.label.items self.old.buffer self.old.described) place) }
     {
         if self.buffer.is_empty() {
             return Err(ReadFault::WrongForm(place));
@@ -580,12 +580,6 @@ impl Reader {
             Word::Theorem => self.labelled(Mode::Theorem, place),
         }
     }
-}
-
-fn contains(numbers: &[u32], number: u32) -> bool
-    ensures { result ≡ list_any (λ n. number == n) numbers.now }
-{
-    numbers.iter().any(|n| number == *n)
 }
 
 /// Ends what the endings say.

@@ -11,7 +11,7 @@ use crate::mode::Mode;
 use crate::reader::Reader;
 use mm_distinct::Partings;
 use mm_layers::Layers;
-use mm_names::{Marks, Names, SymbolTable};
+use mm_names::{Gathered, Marks, Names, SymbolTable};
 use mm_tokens::{Piece, Scanner, Token};
 use mm_words::word_of;
 use std::alloc::Global;
@@ -36,7 +36,7 @@ pub fn new_reader(alloc: Global) -> Reader
         begun: 0,
         label: Vec::new(alloc),
         described: None,
-        buffer: Vec::new(alloc),
+        buffer: Gathered::new(alloc),
         proof: 0,
         comment: None,
         marks: Marks::new(alloc),
