@@ -6,7 +6,7 @@ use Rattle.mm_names.specs.declared.table.Standing.{Standing}
 use Rattle.mm_names.specs.declared.table.Found.{Found}
 
 abbrev pub nothing : Standing
-nothing = record { constant = false; active = false; floated = false }
+nothing = record { constant = false; active = false; floated = false; float = 0 }
 
 abbrev pub found_by : Standings → Option ℕ → Found
 found_by t None = record { number = length t.texts; known = false; standing = nothing }

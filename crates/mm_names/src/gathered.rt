@@ -2,6 +2,7 @@
 
 ghost use Rattle.std.specs.Prelude.{◌≡◌, ◌==◌, [], ◌∷◌, ◌++◌, OnOk, OnErr, length};
 ghost use Rattle.std.specs.List.{list_any};
+ghost use Rattle.mm_names.specs.Marked.{with_number};
 
 use crate::marks::Marks;
 use std::alloc::{AllocError, Global};
@@ -46,6 +47,17 @@ impl Gathered {
         self.marks.stamp(number);
         self.items.push(number)?;
         Ok(())
+    }
+
+    /// Adds a number at the end, unless it is there.
+    pub fn insert(&mut self, number: u32) -> Result<(), AllocError>
+        ensures ok { OnOk result (self.new ≡ with_number self.old number) }
+        ensures err { OnErr result (self.new ≡ self.old) }
+    {
+        if self.contains(number) {
+            return Ok(());
+        }
+        self.push(number)
     }
 
     /// Whether a number is among them.

@@ -9,12 +9,14 @@ use crate::names::Names;
 use std::alloc::{AllocError, Global};
 use std::marker::Model;
 
-/// Of a symbol: whether it is a constant, is an active variable, has an active `$f`.
+/// Of a symbol: whether it is a constant, is an active variable, has an active `$f`; and the id of the last `$f` that it
+/// had, which is the active one where it has one, 0 where it never had any.
 #[derive(Clone, Copy, Debug, PartialEq, Eq)]
 pub struct Standing {
     pub constant: bool,
     pub active: bool,
     pub floated: bool,
+    pub float: u32,
 }
 
 /// What is known of a text as a symbol. One that was never declared has the number that it would get.
@@ -29,6 +31,7 @@ pub const NOTHING: Standing = Standing {
     constant: false,
     active: false,
     floated: false,
+    float: 0,
 };
 
 /// The symbols ever declared.

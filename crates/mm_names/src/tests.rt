@@ -26,11 +26,13 @@ fn knows_symbols(rt: HostRuntime) -> Result<(), Fail> {
         constant: true,
         active: false,
         floated: false,
+        float: 0,
     };
     let active = Standing {
         constant: false,
         active: true,
         floated: false,
+        float: 0,
     };
     table.declare(rt.alloc(), b"wff", constant)?;
     table.declare(rt.alloc(), b"p", NOTHING)?;
@@ -63,6 +65,7 @@ fn gathers_numbers(rt: HostRuntime) -> Result<(), Fail> {
     let mut gathered = Gathered::new(rt.alloc());
     gathered.push(3)?;
     gathered.push(1)?;
+    gathered.insert(3)?;
     assert_eq!(rt; gathered.as_slice(), [3, 1].as_slice());
     assert!(rt; gathered.contains(1));
     assert!(rt; !gathered.contains(2));

@@ -16,12 +16,14 @@ use Rattle.mm_layers.specs.Layered.{Layered, pushed}
 use Rattle.mm_layers.specs.Moves.{in_force}
 use Rattle.mm_scope.specs.Moves.{stack, IsBalanced}
 use Rattle.mm_tokens.specs.declared.pieces.Span.{Span}
-use Rattle.mm_scope.specs.Mandatory.{an_assertion}
+use Rattle.mm_scope.specs.Mandatory.{an_assertion_with, an_assertion, mandatory_of}
+use Rattle.mm_scope.specs.Needed.{needed_by}
 use Rattle.mm_scope.specs.Stated.{Stated, a_hypothesis}
 use Rattle.mm_scope.specs.declared.statement.Kind.{Kind}
 use Rattle.mm_scope.specs.declared.statement.Kind.TheVariants as kind
 use Rattle.mm_names.specs.declared.table.Standing.{Standing}
 use Rattle.mm_scope.specs.declared.ending.Ending.TheVariants.{Active, Floated}
+use Rattle.mm_scope.proofs.Floats.{last_float}
 use Rattle.mm_scope.proofs.LookBack.{holds}
 use Rattle.mm_scope.proofs.Stacks.{once_pushed}
 use Rattle.mm_scope.proofs.Declared.{Sets, sets_state, sets_symbol, nothing_past, or_comm, or_false, flag_on, flag_kept, any_pushed}
@@ -75,9 +77,9 @@ new_sizes t x s e = omega (arith, e, length-append t.standings (s ∷ []), lengt
 -- a constant
 pub agrees_constant : (past : List Event) (c : Context) (t : List ℕ) (n : ℕ) → length c.table.standings ≡ n → list_any (bytes_eq t) (symbols past) ≡ false
     → Agrees past c → Agrees (constant t n ∷ past) (add_to c (constant t n))
-unfolding add_to symbols labels statements constants moves open_blocks
+unfolding add_to symbols labels statements constants moves open_blocks last_float
 agrees_constant past c t n e fresh a =
-    let s : Standing = record { constant = true; active = false; floated = false } in
+    let s : Standing = record { constant = true; active = false; floated = false; float = 0 } in
     let u : Standings = with_symbol c.table t s in
     let sets : Sets c.table u n s = new_sets c.table t s n e in
     record {
@@ -87,6 +89,7 @@ agrees_constant past c t n e fresh a =
       constant_flags = λ k. flag_on (λ x. x.constant) c.table u n s sets refl k (list_any (nat_eq k) (constants past)) (a.constant_flags k) ∙ or_comm (list_any (nat_eq k) (constants past)) (nat_eq k n);
       active_flags = λ k. flag_kept (λ x. x.active) c.table u n s sets (ap (λ x. x.active) (sym (new_nothing c.table n e))) k ∙ a.active_flags k;
       floated_flags = λ k. flag_kept (λ x. x.floated) c.table u n s sets (ap (λ x. x.floated) (sym (new_nothing c.table n e))) k ∙ a.floated_flags k;
+      float_ids = λ k. flag_kept (λ x. x.float) c.table u n s sets (ap (λ x. x.float) (sym (new_nothing c.table n e))) k ∙ a.float_ids k;
       once_active = a.once_active;
       once_floated = a.once_floated;
       endings = a.endings;
@@ -102,10 +105,10 @@ at_same get t k n same off = ap (λ j. get (standing_at t j)) (eqb-true k n same
 -- a variable, whatever the table was
 agrees_active : (past : List Event) (c : Context) (t : List ℕ) (n : ℕ) (u : Standings) (s : Standing) → Sets c.table u n s
     → u.texts ≡ symbols (variable t n ∷ past) → length u.standings ≡ length u.texts → s.active ≡ true → s.constant ≡ (standing_at c.table n).constant
-    → s.floated ≡ (standing_at c.table n).floated → (standing_at c.table n).active ≡ false → Agrees past c
+    → s.floated ≡ (standing_at c.table n).floated → s.float ≡ (standing_at c.table n).float → (standing_at c.table n).active ≡ false → Agrees past c
     → (v : Layered ℕ) → Agrees (variable t n ∷ past) (record c { table = u; endings = c.endings ++ Active n ∷ []; variables = v })
-unfolding labels statements constants moves stack IsBalanced open_blocks
-agrees_active past c t n u s sets texts sizes on same_constant same_floated off a v = record {
+unfolding labels statements constants moves stack IsBalanced open_blocks last_float
+agrees_active past c t n u s sets texts sizes on same_constant same_floated same_float off a v = record {
   texts = texts;
   sizes = sizes;
   labelled = a.labelled;
@@ -113,6 +116,7 @@ agrees_active past c t n u s sets texts sizes on same_constant same_floated off 
   active_flags = λ k. flag_on (λ x. x.active) c.table u n s sets on k (list_any (is_active_of k) c.endings) (a.active_flags k) ∙ sym (any_pushed (is_active_of k) c.endings (Active n));
   floated_flags = λ k. flag_kept (λ x. x.floated) c.table u n s sets same_floated k ∙ a.floated_flags k
       ∙ sym (or_false (list_any (is_floated_of k) c.endings)) ∙ sym (any_pushed (is_floated_of k) c.endings (Active n));
+  float_ids = λ k. flag_kept (λ x. x.float) c.table u n s sets same_float k ∙ a.float_ids k;
   once_active = λ k. once_pushed (is_active_of k) c.endings (Active n) (a.once_active k) (λ same. sym (a.active_flags k) ∙ at_same (λ x. x.active) c.table k n same off);
   once_floated = λ k. once_pushed (is_floated_of k) c.endings (Active n) (a.once_floated k) (λ same. absurd (false≢true same));
   endings = ap (λ es. es ++ Active n ∷ []) a.endings;
@@ -145,14 +149,14 @@ agrees_variable past c t None e off a =
     let none = new_nothing c.table n len in
     subst (Agrees (variable t n ∷ past)) (sym (new_shape c t n n (ap (position (bytes_eq t)) a.texts ∙ e) (ap length a.texts)))
     (agrees_active past c t n (with_symbol c.table t s) s (new_sets c.table t s n len) (added t c.table.texts (symbols past) a.texts (not_there (bytes_eq t) (symbols past) e))
-    (new_sizes c.table t s a.sizes) refl (ap (λ x. x.constant) (sym none)) (ap (λ x. x.floated) (sym none)) (ap (λ x. x.active) none) a (pushed c.variables (n ∷ [])))
+    (new_sizes c.table t s a.sizes) refl (ap (λ x. x.constant) (sym none)) (ap (λ x. x.floated) (sym none)) (ap (λ x. x.float) (sym none)) (ap (λ x. x.active) none) a (pushed c.variables (n ∷ [])))
 agrees_variable past c t (Some n) e off a =
     let s : Standing = activated (standing_at c.table n) in
     let found = is_there t (symbols past) n e in
     let small : n < length c.table.standings = omega (arith, found.0, a.sizes, ap length a.texts) in
     subst (Agrees (variable t n ∷ past)) (sym (again_shape c t n n (ap (position (bytes_eq t)) a.texts ∙ e)))
     (agrees_active past c t n (with_state c.table n s) s (sets_state c.table n s small) (a.texts ∙ ap (λ b. cond b (symbols past) (symbols past ++ t ∷ [])) (sym found.1))
-    (length-set c.table.standings n s ∙ a.sizes) refl refl refl (a.active_flags n ∙ ap (list_any (is_active_of n)) (forced past c a) ∙ off) a (pushed c.variables (n ∷ [])))
+    (length-set c.table.standings n s ∙ a.sizes) refl refl refl refl (a.active_flags n ∙ ap (list_any (is_active_of n)) (forced past c a) ∙ off) a (pushed c.variables (n ∷ [])))
 
 -- the variable of a `$f` has none yet
 abbrev pub IsReady : List Event → ℕ → Type 0
@@ -163,12 +167,16 @@ pub ready_as : (past : List Event) (t : List ℕ) (r : Option ℕ) → position 
 ready_as past t None e on off = absurd (false≢true on)
 ready_as past t (Some n) e on off = ((is_there t (symbols past) n e).0, off)
 
+one_float : (b : Bool) (s t : Standing) (m n : ℕ) → s.float ≡ m → t.float ≡ n → (cond b s t).float ≡ cond b m n
+one_float true s t m n e f = e
+one_float false s t m n e f = f
+
 pub agrees_float : (past : List Event) (c : Context) (l ss : List ℕ) (d : Option Span) → list_any (bytes_eq l) (labels past) ≡ false → IsReady past (slice_index ss 1)
     → Agrees past c → Agrees (float l ss d ∷ past) (add_to c (float l ss d))
-unfolding add_to symbols labels statements constants moves stack IsBalanced open_blocks
+unfolding add_to symbols labels statements constants moves stack IsBalanced open_blocks last_float
 agrees_float past c l ss d fresh ready a =
     let v : ℕ = slice_index ss 1 in
-    let s : Standing = with_float (standing_at c.table v) in
+    let s : Standing = with_float (standing_at c.table v) (length c.labels) in
     let u : Standings = with_state c.table v s in
     let small : v < length c.table.standings = omega (arith, ready.0, a.sizes, ap length a.texts) in
     let sets : Sets c.table u v s = sets_state c.table v s small in
@@ -181,6 +189,7 @@ agrees_float past c l ss d fresh ready a =
       active_flags = λ k. flag_kept (λ x. x.active) c.table u v s sets refl k ∙ a.active_flags k
           ∙ sym (or_false (list_any (is_active_of k) c.endings)) ∙ sym (any_pushed (is_active_of k) c.endings (Floated v));
       floated_flags = λ k. flag_on (λ x. x.floated) c.table u v s sets refl k (list_any (is_floated_of k) c.endings) (a.floated_flags k) ∙ sym (any_pushed (is_floated_of k) c.endings (Floated v));
+      float_ids = λ k. ap (λ x. x.float) (sets k) ∙ one_float (nat_eq k v) s (standing_at c.table k) (length (labels past)) (last_float past k) (ap length a.labelled) (a.float_ids k);
       once_active = λ k. once_pushed (is_active_of k) c.endings (Floated v) (a.once_active k) (λ same. absurd (false≢true same));
       once_floated = λ k. once_pushed (is_floated_of k) c.endings (Floated v) (a.once_floated k) (λ same. sym (a.floated_flags k) ∙ at_same (λ x. x.floated) c.table k v same off);
       endings = ap (λ es. es ++ Floated v ∷ []) a.endings;
@@ -193,7 +202,7 @@ agrees_float past c l ss d fresh ready a =
 -- statements that end nothing
 pub agrees_essential : (past : List Event) (c : Context) (l ss : List ℕ) (d : Option Span) → list_any (bytes_eq l) (labels past) ≡ false
     → Agrees past c → Agrees (essential l ss d ∷ past) (add_to c (essential l ss d))
-unfolding add_to symbols labels statements constants moves open_blocks
+unfolding add_to symbols labels statements constants moves open_blocks last_float
 agrees_essential past c l ss d fresh a = record {
   texts = a.texts;
   sizes = a.sizes;
@@ -201,6 +210,7 @@ agrees_essential past c l ss d fresh a = record {
   constant_flags = a.constant_flags;
   active_flags = a.active_flags;
   floated_flags = a.floated_flags;
+  float_ids = a.float_ids;
   once_active = a.once_active;
   once_floated = a.once_floated;
   endings = a.endings;
@@ -218,45 +228,51 @@ one_assertion k ss from to d xs ys hs is gs fs e f g =
     ∙ ap (λ zs. ys ++ an_assertion ys is zs k ss from to d ∷ []) g
 
 pub agrees_asserted : (past : List Event) (c : Context) (l ss : List ℕ) (d : Option Span) → list_any (bytes_eq l) (labels past) ≡ false
-    → c.hypotheses ≡ active_hypotheses past → c.partings.now ≡ active_distinct past → Agrees past c → Agrees (asserted l ss d ∷ past) (add_to c (asserted l ss d))
-unfolding add_to symbols labels statements constants moves open_blocks
-agrees_asserted past c l ss d fresh act groups a = record {
+    → needed_by c.table c.statements c.essentials.now ss ≡ mandatory_of c.statements c.hypotheses ss → c.hypotheses ≡ active_hypotheses past → c.partings.now ≡ active_distinct past
+    → Agrees past c → Agrees (asserted l ss d ∷ past) (add_to c (asserted l ss d))
+unfolding add_to symbols labels statements constants moves open_blocks last_float
+agrees_asserted past c l ss d fresh needed act groups a = record {
   texts = a.texts;
   sizes = a.sizes;
   labelled = new_label l c.labels (labels past) a.labelled fresh;
   constant_flags = a.constant_flags;
   active_flags = a.active_flags;
   floated_flags = a.floated_flags;
+  float_ids = a.float_ids;
   once_active = a.once_active;
   once_floated = a.once_floated;
   endings = a.endings;
   marks = a.marks;
   balanced = a.balanced;
   places = a.places;
-  stated = one_assertion kind.Axiom ss 0 0 d c.statements (statements past) c.hypotheses (active_hypotheses past) c.partings.now (active_distinct past) a.stated act groups;
+  stated = ap (λ hs. c.statements ++ an_assertion_with c.statements hs c.partings.now kind.Axiom ss 0 0 d ∷ []) needed
+      ∙ one_assertion kind.Axiom ss 0 0 d c.statements (statements past) c.hypotheses (active_hypotheses past) c.partings.now (active_distinct past) a.stated act groups;
 }
 
 pub agrees_theorem : (past : List Event) (c : Context) (l ss : List ℕ) (from to : ℕ) (d : Option Span) → list_any (bytes_eq l) (labels past) ≡ false
-    → c.hypotheses ≡ active_hypotheses past → c.partings.now ≡ active_distinct past → Agrees past c → Agrees (theorem l ss from to d ∷ past) (add_to c (theorem l ss from to d))
-unfolding add_to symbols labels statements constants moves open_blocks
-agrees_theorem past c l ss from to d fresh act groups a = record {
+    → needed_by c.table c.statements c.essentials.now ss ≡ mandatory_of c.statements c.hypotheses ss → c.hypotheses ≡ active_hypotheses past → c.partings.now ≡ active_distinct past
+    → Agrees past c → Agrees (theorem l ss from to d ∷ past) (add_to c (theorem l ss from to d))
+unfolding add_to symbols labels statements constants moves open_blocks last_float
+agrees_theorem past c l ss from to d fresh needed act groups a = record {
   texts = a.texts;
   sizes = a.sizes;
   labelled = new_label l c.labels (labels past) a.labelled fresh;
   constant_flags = a.constant_flags;
   active_flags = a.active_flags;
   floated_flags = a.floated_flags;
+  float_ids = a.float_ids;
   once_active = a.once_active;
   once_floated = a.once_floated;
   endings = a.endings;
   marks = a.marks;
   balanced = a.balanced;
   places = a.places;
-  stated = one_assertion kind.Theorem ss from to d c.statements (statements past) c.hypotheses (active_hypotheses past) c.partings.now (active_distinct past) a.stated act groups;
+  stated = ap (λ hs. c.statements ++ an_assertion_with c.statements hs c.partings.now kind.Theorem ss from to d ∷ []) needed
+      ∙ one_assertion kind.Theorem ss from to d c.statements (statements past) c.hypotheses (active_hypotheses past) c.partings.now (active_distinct past) a.stated act groups;
 }
 
 pub agrees_distinct : (past : List Event) (c : Context) (ss : List ℕ) → Agrees past c → Agrees (distinct ss ∷ past) (add_to c (distinct ss))
-unfolding add_to symbols labels statements constants moves open_blocks
+unfolding add_to symbols labels statements constants moves open_blocks last_float
 agrees_distinct past c ss a = record {
   texts = a.texts;
   sizes = a.sizes;
@@ -264,6 +280,7 @@ agrees_distinct past c ss a = record {
   constant_flags = a.constant_flags;
   active_flags = a.active_flags;
   floated_flags = a.floated_flags;
+  float_ids = a.float_ids;
   once_active = a.once_active;
   once_floated = a.once_floated;
   endings = a.endings;

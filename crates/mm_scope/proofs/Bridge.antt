@@ -12,6 +12,8 @@ use Rattle.mm_scope.specs.Contexts.{Context, Fails, add_to, answers, empty_state
 use Rattle.mm_scope.specs.Laws.{LabelsDiffer}
 use Rattle.mm_scope.specs.Looks.{look_back, moves, constants, is_active_of, is_floated_of}
 use Rattle.mm_layers.specs.Layered.{layered}
+use Rattle.mm_layers.specs.Moves.{in_force}
+use Rattle.std.proofs.lemmas.Bool.{false≢true}
 use Rattle.mm_scope.specs.Moves.{stack, IsBalanced}
 use Rattle.mm_scope.specs.Reading.{text_of, after, step, read_from}
 use Rattle.mm_scope.specs.ByTables as tables
@@ -24,6 +26,7 @@ use Rattle.mm_scope.specs.declared.ending.Block.{Block}
 use Rattle.mm_scope.specs.declared.fault.ReadFault.{ReadFault}
 use Rattle.mm_scope.specs.declared.fault.ReadFault.TheVariants as fault
 use Rattle.mm_scope.proofs.Stacks.{Once}
+use Rattle.mm_scope.proofs.Floats.{FloatsKnown, essential_moves, last_float}
 use Rattle.mm_scope.proofs.Hypotheses.{HypothesesAgree, counts_of}
 use Rattle.mm_scope.proofs.Layering.{LayersAgree, knowns}
 use Rattle.mm_scope.proofs.Sound.{SoundAt}
@@ -41,7 +44,7 @@ once_nothing p (suc m) = refl
 
 -- before the first event
 agrees_nothing : Agrees [] (context_at [])
-unfolding context_at symbols labels statements constants moves stack IsBalanced open_blocks places_of marks_of
+unfolding context_at symbols labels statements constants moves stack IsBalanced open_blocks places_of marks_of last_float
 agrees_nothing = record {
   texts = refl;
   sizes = refl;
@@ -49,6 +52,7 @@ agrees_nothing = record {
   constant_flags = λ n. refl;
   active_flags = λ n. refl;
   floated_flags = λ n. refl;
+  float_ids = λ n. refl;
   once_active = λ n. once_nothing (is_active_of n);
   once_floated = λ n. once_nothing (is_floated_of n);
   endings = refl;
@@ -79,11 +83,15 @@ unfolding context_at statements labels
 sound_nothing = record { all = λ id small. absurd (omega (arith, small)); hypotheses = All-nil _; counted = refl }
 
 layers_nothing : LayersAgree [] (context_at [])
-unfolding context_at hypothesis_moves variable_moves distinct_moves layered knowns
-layers_nothing = record { partings = refl; actives = refl; variables = refl; known = refl }
+unfolding context_at hypothesis_moves essential_moves variable_moves distinct_moves layered knowns
+layers_nothing = record { partings = refl; actives = refl; essentials = refl; variables = refl; known = refl }
+
+floats_nothing : FloatsKnown []
+unfolding hypothesis_moves in_force
+floats_nothing k v on it = absurd (false≢true on)
 
 good_nothing : Good nothing_read
-good_nothing = record { held = record { agrees = agrees_nothing; hypotheses = hypotheses_nothing; sound = sound_nothing; differ = tt; layers = layers_nothing; constants = tt }; fresh = tt; ready = tt }
+good_nothing = record { held = record { agrees = agrees_nothing; hypotheses = hypotheses_nothing; sound = sound_nothing; differ = tt; layers = layers_nothing; floats = floats_nothing; constants = tt }; fresh = tt; ready = tt }
 
 kept : (bytes : List ℕ) (s : State (List Event)) (k : Token) → Good s → IfFine (step put look_back bytes s k) Good
 kept bytes s k g = step_keeps s (word_of (text_of bytes k)) (text_of bytes k) k.start g

@@ -63,6 +63,7 @@ module _ (get : Standing → Bool) where
       → get (standing_at u k) ≡ (x || nat_eq k n)
   flag_on t u n s sets on k x e = ap get (sets k) ∙ on_by s (standing_at t k) (nat_eq k n) x on e
 
+module _ {A : Type 0} (get : Standing → A) where
   kept_by : (t : Standings) (s : Standing) (k n : ℕ) (b : Bool) → nat_eq k n ≡ b → get s ≡ get (standing_at t n) → get (cond b s (standing_at t k)) ≡ get (standing_at t k)
   kept_by t s k n true e same = let place : k ≡ n = eqb-true k n e in rw place same
   kept_by t s k n false e same = refl

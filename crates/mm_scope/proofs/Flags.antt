@@ -78,3 +78,18 @@ constant_ended t (Floated m) n = constant_same t m n (record (standing_at t m) {
 pub constant_after : (es : List Ending) (t : Standings) (n : ℕ) → (standing_at (fold ended t es) n).constant ≡ (standing_at t n).constant
 constant_after [] t n = refl
 constant_after (e ∷ es) t n = constant_after es (ended t e) n ∙ constant_ended t e n
+
+float_same : (t : Standings) (m n : ℕ) (s : Standing) → s.float ≡ (standing_at t m).float → (b : Bool) → nat_eq n m ≡ b
+    → (standing_at (with_state t m s) n).float ≡ (standing_at t n).float
+float_same t m n s e true h =
+    let same : n ≡ m = eqb-true n m h in
+    rw same (elim (changed_here t m s) [ inl f ↦ ap (λ s. s.float) f ∙ e | inr f ↦ ap (λ s. s.float) (f.0 ∙ sym f.1) ])
+float_same t m n s e false h = ap (λ s. s.float) (changed t m n s h)
+
+float_ended : (t : Standings) (e : Ending) (n : ℕ) → (standing_at (ended t e) n).float ≡ (standing_at t n).float
+float_ended t (Active m) n = float_same t m n (record (standing_at t m) { active = false }) refl (nat_eq n m) refl
+float_ended t (Floated m) n = float_same t m n (record (standing_at t m) { floated = false }) refl (nat_eq n m) refl
+
+pub float_after : (es : List Ending) (t : Standings) (n : ℕ) → (standing_at (fold ended t es) n).float ≡ (standing_at t n).float
+float_after [] t n = refl
+float_after (e ∷ es) t n = float_after es (ended t e) n ∙ float_ended t e n

@@ -11,6 +11,8 @@ use Rattle.mm_scope.specs.Looks.{known_as}
 use Rattle.mm_scope.specs.declared.statement.Kind.{Kind}
 use Rattle.mm_scope.specs.declared.statement.Kind.TheVariants as kind
 use Rattle.mm_scope.proofs.Agreements.{IsReady, not_there, agrees_constant, agrees_variable, agrees_float, agrees_essential, agrees_asserted, agrees_theorem, agrees_distinct}
+use Rattle.mm_scope.proofs.Candidates.{needed_is}
+use Rattle.mm_scope.proofs.Floats.{FloatsKnown, last_float, known_float, known_essential, known_asserted, known_theorem, known_opened, known_closed}
 use Rattle.mm_scope.proofs.Hypotheses.{HypothesesAgree, forced, same_hypotheses, hypotheses_opened, hypotheses_closed, hypotheses_stated, hypotheses_asserted}
 use Rattle.mm_scope.proofs.Simulation.{Agrees, Last, split_last, deep_of, closing, agrees_opened, agrees_closed}
 use Rattle.mm_scope.proofs.Layering.{LayersAgree, parted, layers_constant, layers_variable, layers_distinct, layers_float, layers_essential, layers_asserted, layers_theorem, layers_opened, layers_closed}
@@ -25,6 +27,7 @@ pub record Held (past : List Event) : Type 0 where
   pub sound : SoundAt past (context_at past)
   pub differ : LabelsDiffer past
   pub layers : LayersAgree past (context_at past)
+  pub floats : FloatsKnown past
   pub constants : ConstantsAreNew past
 
 one_label : (l : List ℕ) (ls : List (List ℕ)) → length (ls ++ l ∷ []) ≡ length ls + 1
@@ -42,13 +45,14 @@ new_number past t (Some n) e off = absurd (true≢false off)
 
 pub held_constant : (past : List Event) (t : List ℕ) (r : Option ℕ) → position (bytes_eq t) (symbols past) ≡ r → (known_as past t r).known ≡ false
     → Held past → Held (constant t (known_as past t r).number ∷ past)
-unfolding context_at add_to statements labels hypothesis_moves
+unfolding context_at add_to statements labels hypothesis_moves last_float
 held_constant past t r e off h = record {
   agrees = new_constant past t r e off h.agrees;
   hypotheses = same_hypotheses (constant t (known_as past t r).number) past (context_at past) _ refl refl refl refl refl h.hypotheses;
   sound = sound_same (constant t (known_as past t r).number) past (context_at past) _ refl refl refl h.sound;
   differ = h.differ;
   layers = layers_constant past (context_at past) t (known_as past t r).number h.layers;
+  floats = h.floats;
   constants = (new_number past t r e off, h.constants);
 }
 
@@ -59,36 +63,39 @@ new_variable past t r e off a = agrees_variable past (context_at past) t r e off
 
 pub held_variable : (past : List Event) (t : List ℕ) (r : Option ℕ) → position (bytes_eq t) (symbols past) ≡ r → (known_as past t r).active ≡ false
     → Held past → Held (variable t (known_as past t r).number ∷ past)
-unfolding context_at add_to statements labels hypothesis_moves
+unfolding context_at add_to statements labels hypothesis_moves last_float
 held_variable past t r e off h = record {
   agrees = new_variable past t r e off h.agrees;
   hypotheses = same_hypotheses (variable t (known_as past t r).number) past (context_at past) _ refl refl refl refl refl h.hypotheses;
   sound = sound_same (variable t (known_as past t r).number) past (context_at past) _ refl refl refl h.sound;
   differ = h.differ;
   layers = layers_variable past (context_at past) t (known_as past t r).number h.layers;
+  floats = h.floats;
   constants = h.constants;
 }
 
 pub held_distinct : (past : List Event) (ss : List ℕ) → Held past → Held (distinct ss ∷ past)
-unfolding context_at add_to statements labels hypothesis_moves
+unfolding context_at add_to statements labels hypothesis_moves last_float
 held_distinct past ss h = record {
   agrees = agrees_distinct past (context_at past) ss h.agrees;
   hypotheses = same_hypotheses (distinct ss) past (context_at past) _ refl refl refl refl refl h.hypotheses;
   sound = sound_same (distinct ss) past (context_at past) _ refl refl refl h.sound;
   differ = h.differ;
   layers = layers_distinct past (context_at past) ss h.layers;
+  floats = h.floats;
   constants = h.constants;
 }
 
 pub held_float : (past : List Event) (l ss : List ℕ) (d : Option Span) → list_any (bytes_eq l) (labels past) ≡ false → IsReady past (slice_index ss 1) → length ss ≡ 2
     → Held past → Held (float l ss d ∷ past)
-unfolding context_at add_to statements labels hypothesis_moves
+unfolding context_at add_to statements labels hypothesis_moves last_float
 held_float past l ss d fresh ready two h = record {
   agrees = agrees_float past (context_at past) l ss d fresh ready h.agrees;
   hypotheses = hypotheses_stated (float l ss d) past (context_at past) _ refl refl refl h.agrees.labelled (one_label l (labels past)) refl h.hypotheses;
   sound = sound_stated (float l ss d) past (context_at past) _ _ refl (one_label l (labels past)) refl h.agrees.labelled refl refl (omega (arith, two)) (λ _. two) h.sound;
   differ = (fresh, h.differ);
   layers = layers_float past (context_at past) l ss d h.agrees.labelled h.agrees.texts h.layers;
+  floats = known_float past l ss d ready.1 h.floats;
   constants = h.constants;
 }
 
@@ -101,41 +108,44 @@ not_float e = absurd (true≢false (ap is_it e))
 
 pub held_essential : (past : List Event) (l ss : List ℕ) (d : Option Span) → list_any (bytes_eq l) (labels past) ≡ false → 0 < length ss
     → Held past → Held (essential l ss d ∷ past)
-unfolding context_at add_to statements labels hypothesis_moves
+unfolding context_at add_to statements labels hypothesis_moves last_float
 held_essential past l ss d fresh some h = record {
   agrees = agrees_essential past (context_at past) l ss d fresh h.agrees;
   hypotheses = hypotheses_stated (essential l ss d) past (context_at past) _ refl refl refl h.agrees.labelled (one_label l (labels past)) refl h.hypotheses;
   sound = sound_stated (essential l ss d) past (context_at past) _ _ refl (one_label l (labels past)) refl h.agrees.labelled refl refl some (λ e. not_float e) h.sound;
   differ = (fresh, h.differ);
   layers = layers_essential past (context_at past) l ss d h.agrees.labelled h.agrees.texts h.layers;
+  floats = known_essential past l ss d h.floats;
   constants = h.constants;
 }
 
 pub held_asserted : (past : List Event) (l ss : List ℕ) (d : Option Span) → list_any (bytes_eq l) (labels past) ≡ false → 0 < length ss
     → Held past → Held (asserted l ss d ∷ past)
-unfolding context_at add_to statements labels hypothesis_moves
+unfolding context_at add_to statements labels hypothesis_moves last_float
 held_asserted past l ss d fresh some h =
     let act : (context_at past).hypotheses ≡ active_hypotheses past = forced past (context_at past) h.hypotheses in
     record {
-      agrees = agrees_asserted past (context_at past) l ss d fresh act (parted past (context_at past) h.layers) h.agrees;
+      agrees = agrees_asserted past (context_at past) l ss d fresh (needed_is past (context_at past) ss h.agrees h.layers act h.floats) act (parted past (context_at past) h.layers) h.agrees;
       hypotheses = hypotheses_asserted (asserted l ss d) past (context_at past) _ refl refl refl (one_label l (labels past)) refl h.hypotheses;
       sound = sound_asserted (asserted l ss d) past (context_at past) _ _ refl (one_label l (labels past)) refl act refl refl some h.sound;
       differ = (fresh, h.differ);
       layers = layers_asserted past (context_at past) l ss d h.agrees.texts h.layers;
+      floats = known_asserted past l ss d h.floats;
       constants = h.constants;
     }
 
 pub held_theorem : (past : List Event) (l ss : List ℕ) (from to : ℕ) (d : Option Span) → list_any (bytes_eq l) (labels past) ≡ false → 0 < length ss
     → Held past → Held (theorem l ss from to d ∷ past)
-unfolding context_at add_to statements labels hypothesis_moves
+unfolding context_at add_to statements labels hypothesis_moves last_float
 held_theorem past l ss from to d fresh some h =
     let act : (context_at past).hypotheses ≡ active_hypotheses past = forced past (context_at past) h.hypotheses in
     record {
-      agrees = agrees_theorem past (context_at past) l ss from to d fresh act (parted past (context_at past) h.layers) h.agrees;
+      agrees = agrees_theorem past (context_at past) l ss from to d fresh (needed_is past (context_at past) ss h.agrees h.layers act h.floats) act (parted past (context_at past) h.layers) h.agrees;
       hypotheses = hypotheses_asserted (theorem l ss from to d) past (context_at past) _ refl refl refl (one_label l (labels past)) refl h.hypotheses;
       sound = sound_asserted (theorem l ss from to d) past (context_at past) _ _ refl (one_label l (labels past)) refl act refl refl some h.sound;
       differ = (fresh, h.differ);
       layers = layers_theorem past (context_at past) l ss from to d h.agrees.texts h.layers;
+      floats = known_theorem past l ss from to d h.floats;
       constants = h.constants;
     }
 
@@ -155,6 +165,7 @@ held_opened past p h = record {
   sound = opened_sound past p h.sound;
   differ = h.differ;
   layers = layers_opened past (context_at past) p h.layers;
+  floats = known_opened past p h.floats;
   constants = h.constants;
 }
 
@@ -169,5 +180,6 @@ held_closed past some h =
       sound = closed_sound past l h.sound;
       differ = h.differ;
       layers = layers_closed past c h.layers;
+      floats = known_closed past h.floats;
       constants = h.constants;
     }

@@ -2,7 +2,6 @@ mod Booleans
 mod Counting
 mod Gathered
 mod Closing
-mod Needed
 mod ActiveNow
 mod Loops
 mod Natural
@@ -10,12 +9,16 @@ mod LookBack
 mod Stacks
 mod Flags
 mod Declared
+mod Rising
+mod Gathering
 mod Simulation
 mod Agreements
 mod Hypotheses
 mod Sound
 mod Whole
 mod Layering
+mod Floats
+mod Candidates
 mod SymbolsThen
 mod Moments
 mod Held

@@ -16,7 +16,8 @@ use Rattle.mm_scope.specs.declared.ending.Ending.{Ending}
 use Rattle.mm_scope.specs.declared.ending.Ending.TheVariants.{Active, Floated}
 use Rattle.mm_scope.specs.declared.ending.Block.{Block}
 use Rattle.mm_scope.proofs.LookBack.{holds}
-use Rattle.mm_scope.proofs.Flags.{active_ended, floated_ended, constant_after}
+use Rattle.mm_scope.proofs.Flags.{active_ended, floated_ended, constant_after, float_after}
+use Rattle.mm_scope.proofs.Floats.{last_float}
 use Rattle.mm_scope.proofs.Stacks.{Once, once_taken, closed_flag}
 
 -- the marks of the open blocks, the innermost first
@@ -36,6 +37,7 @@ pub record Agrees (past : List Event) (c : Context) : Type 0 where
   pub constant_flags : (n : ℕ) → (standing_at c.table n).constant ≡ list_any (nat_eq n) (constants past)
   pub active_flags : (n : ℕ) → (standing_at c.table n).active ≡ list_any (is_active_of n) c.endings
   pub floated_flags : (n : ℕ) → (standing_at c.table n).floated ≡ list_any (is_floated_of n) c.endings
+  pub float_ids : (n : ℕ) → (standing_at c.table n).float ≡ last_float past n
   pub once_active : (n : ℕ) → Once (is_active_of n) c.endings
   pub once_floated : (n : ℕ) → Once (is_floated_of n) c.endings
   pub endings : c.endings ≡ (stack (moves past)).items
@@ -75,7 +77,7 @@ places_push (x ∷ xs) b = ap (λ ms. ms ++ x.place ∷ []) (places_push xs b)
 
 -- a block begins
 pub agrees_opened : (past : List Event) (c : Context) (p : ℕ) → Agrees past c → Agrees (opened p ∷ past) (add_to c (opened p))
-unfolding add_to symbols labels statements constants moves stack IsBalanced open_blocks
+unfolding add_to symbols labels statements constants moves stack IsBalanced open_blocks last_float
 agrees_opened past c p a = record {
   texts = a.texts;
   sizes = a.sizes;
@@ -83,6 +85,7 @@ agrees_opened past c p a = record {
   constant_flags = a.constant_flags;
   active_flags = a.active_flags;
   floated_flags = a.floated_flags;
+  float_ids = a.float_ids;
   once_active = a.once_active;
   once_floated = a.once_floated;
   endings = a.endings;
@@ -140,7 +143,7 @@ sizes_ended (Floated m ∷ es) t = sizes_ended es (ended t (Floated m)) ∙ leng
 
 -- a block that is open is closed
 pub agrees_closed : (past : List Event) (c : Context) → 0 < length (open_blocks past) → Agrees past c → Agrees (closed ∷ past) (add_to c closed)
-unfolding symbols labels statements constants moves stack IsBalanced open_blocks pop marks_of
+unfolding symbols labels statements constants moves stack IsBalanced open_blocks pop marks_of last_float
 agrees_closed past c some a =
     let l = split_last c.blocks (omega (arith, deep_of past c a)) in
     let marks : l.last.endings ∷ marks_of l.before ≡ (stack (moves past)).marks = sym (marks_push l.before l.last) ∙ ap marks_of (sym l.whole) ∙ a.marks in
@@ -151,6 +154,7 @@ agrees_closed past c some a =
       constant_flags = λ n. constant_after (drop l.last.endings c.endings) c.table n ∙ a.constant_flags n;
       active_flags = λ n. closed_flag ended (λ t k. (standing_at t k).active) is_active_of active_ended c.table c.endings l.last.endings n (a.active_flags n) (a.once_active n);
       floated_flags = λ n. closed_flag ended (λ t k. (standing_at t k).floated) is_floated_of floated_ended c.table c.endings l.last.endings n (a.floated_flags n) (a.once_floated n);
+      float_ids = λ n. float_after (drop l.last.endings c.endings) c.table n ∙ a.float_ids n;
       once_active = λ n. once_taken (is_active_of n) c.endings l.last.endings (a.once_active n);
       once_floated = λ n. once_taken (is_floated_of n) c.endings l.last.endings (a.once_floated n);
       endings = ap (take l.last.endings) a.endings ∙ ap (λ ms. (pop ms (stack (moves past)).items).items) marks;

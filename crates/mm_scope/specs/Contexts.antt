@@ -8,7 +8,8 @@ use Rattle.mm_layers.specs.Layered as layers
 use Rattle.mm_names.specs.Texts.{with_text}
 use Rattle.mm_scope.specs.Events.{Event, constant, variable, float, essential, asserted, theorem, distinct, opened, closed}
 use Rattle.mm_scope.specs.Keeps.{stated}
-use Rattle.mm_scope.specs.Mandatory.{an_assertion}
+use Rattle.mm_scope.specs.Mandatory.{an_assertion_with}
+use Rattle.mm_scope.specs.Needed.{needed_by}
 use Rattle.mm_names.specs.Standings.{Standings}
 use Rattle.mm_scope.specs.Stated.{Stated, a_hypothesis}
 use Rattle.mm_scope.specs.Steps.{Answers, State}
@@ -35,6 +36,7 @@ pub record Context : Type 0 where
   pub blocks : List Block
   pub partings : Layered (List ℕ)
   pub actives : Layered ℕ
+  pub essentials : Layered ℕ
   pub variables : Layered ℕ
   pub known : List ℕ
 
@@ -49,6 +51,7 @@ context_of r = record {
   blocks = r.blocks.items;
   partings = r.partings;
   actives = r.actives;
+  essentials = r.essentials;
   variables = r.variables;
   known = r.known.items;
 }
@@ -81,8 +84,8 @@ answers c t =
 abbrev pub activated : Standing → Standing
 activated s = record s { active = true }
 
-abbrev pub with_float : Standing → Standing
-with_float s = record s { floated = true }
+abbrev pub with_float : Standing → ℕ → Standing
+with_float s id = record s { floated = true; float = id }
 
 -- what is in force before the next labelled statement is noted
 abbrev pub noted_layers : Context → Context
@@ -109,7 +112,7 @@ with_hypothesis c l k ss d = record (with_statement c l (a_hypothesis k ss d) No
 
 abbrev pub with_assertion : Context → List ℕ → Kind → List ℕ → ℕ → ℕ → Option Span → Context
 with_assertion c l k ss from to d =
-    with_statement c l (an_assertion c.statements c.hypotheses c.partings.now k ss from to d) (Some 0)
+    with_statement c l (an_assertion_with c.statements (needed_by c.table c.statements c.essentials.now ss) c.partings.now k ss from to d) (Some 0)
 
 -- what an ending ends
 abbrev pub ended : Standings → Ending → Standings
@@ -118,10 +121,20 @@ ended t (Floated n) = with_state t n (record (standing_at t n) { floated = false
 
 -- a block begins or ends for what is kept in layers
 abbrev pub begun_layers : Context → Context
-begun_layers c = record c { partings = layers.begun c.partings; actives = layers.begun c.actives; variables = layers.begun c.variables }
+begun_layers c = record c {
+  partings = layers.begun c.partings;
+  actives = layers.begun c.actives;
+  essentials = layers.begun c.essentials;
+  variables = layers.begun c.variables;
+}
 
 abbrev pub closed_layers : Context → Context
-closed_layers c = record c { partings = layers.ended c.partings; actives = layers.ended c.actives; variables = layers.ended c.variables }
+closed_layers c = record c {
+  partings = layers.ended c.partings;
+  actives = layers.ended c.actives;
+  essentials = layers.ended c.essentials;
+  variables = layers.ended c.variables;
+}
 
 abbrev pub close : Context → Option Block → Context
 close c None = c
@@ -134,7 +147,7 @@ close c (Some b) = record c {
 }
 
 unfoldable pub add_to : Context → Event → Context
-add_to c (constant t n) = record c { table = with_symbol c.table t (record { constant = true; active = false; floated = false }) }
+add_to c (constant t n) = record c { table = with_symbol c.table t (record { constant = true; active = false; floated = false; float = 0 }) }
 add_to c (variable t n) =
     let found = found_in c.table t in
     record c {
@@ -144,8 +157,8 @@ add_to c (variable t n) =
     }
 add_to c (float l ss s) =
     let v = slice_index ss 1 in
-    record (with_hypothesis c l kind.Float ss s) { table = with_state c.table v (with_float (standing_at c.table v)); endings = c.endings ++ Floated v ∷ [] }
-add_to c (essential l ss s) = with_hypothesis c l kind.Essential ss s
+    record (with_hypothesis c l kind.Float ss s) { table = with_state c.table v (with_float (standing_at c.table v) (length c.labels)); endings = c.endings ++ Floated v ∷ [] }
+add_to c (essential l ss s) = record (with_hypothesis c l kind.Essential ss s) { essentials = layers.pushed c.essentials (length c.labels ∷ []) }
 add_to c (asserted l ss s) = with_assertion c l kind.Axiom ss 0 0 s
 add_to c (theorem l ss from to s) = with_assertion c l kind.Theorem ss from to s
 add_to c (distinct ss) = record c { partings = layers.pushed c.partings (ss ∷ []) }
@@ -199,6 +212,7 @@ empty_state = record {
     blocks = [];
     partings = layers.nothing;
     actives = layers.nothing;
+    essentials = layers.nothing;
     variables = layers.nothing;
     known = [];
   };

@@ -37,16 +37,18 @@ mandatory_of statements active symbols =
 unfoldable pub variables_of : List Stated → List ℕ → List ℕ
 variables_of statements ids = filter_map (λ id. variable_of (statement_at statements id)) ids
 
+-- an assertion with these mandatory hypotheses, where these groups of variables are parted
+abbrev pub an_assertion_with : List Stated → List ℕ → List (List ℕ) → Kind → List ℕ → ℕ → ℕ → Option Span → Stated
+an_assertion_with statements needed groups k symbols from to d = record {
+  kind = k;
+  symbols = symbols;
+  mandatory = needed;
+  pairs = pairs_among groups (variables_of statements needed);
+  from = from;
+  to = to;
+  described = d;
+}
+
 -- an assertion, where these hypotheses are active and these groups of variables are parted
 abbrev pub an_assertion : List Stated → List ℕ → List (List ℕ) → Kind → List ℕ → ℕ → ℕ → Option Span → Stated
-an_assertion statements active groups k symbols from to d =
-    let needed : List ℕ = mandatory_of statements active symbols in
-    record {
-      kind = k;
-      symbols = symbols;
-      mandatory = needed;
-      pairs = pairs_among groups (variables_of statements needed);
-      from = from;
-      to = to;
-      described = d;
-    }
+an_assertion statements active groups k symbols from to d = an_assertion_with statements (mandatory_of statements active symbols) groups k symbols from to d

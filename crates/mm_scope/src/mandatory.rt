@@ -1,14 +1,15 @@
 //! The mandatory hypotheses of an assertion, and their variables.
 
-ghost use Rattle.std.specs.Prelude.{◌≡◌, ◌||◌, ◌==◌, ℕ, map, flat_map, filter, slice_index, OnOk, IfOk};
+ghost use Rattle.std.specs.Prelude.{◌≡◌, ◌||◌, ◌==◌, ℕ, [], map, flat_map, fold, OnOk, IfOk};
 ghost use Rattle.std.specs.List.{list_any};
 ghost use Rattle.mm_scope.specs.Keeps.{stated};
-ghost use Rattle.mm_scope.specs.Mandatory.{statement_at, essential_symbols, symbols_with, is_mandatory, is_mandatory_by, mandatory_of, variables_of};
+ghost use Rattle.mm_scope.specs.Mandatory.{statement_at, variables_of};
+ghost use Rattle.mm_scope.specs.Needed.{floats_of, candidates, needed_by};
 ghost use Rattle.mm_scope.specs.Stated.{variable_of};
-ghost use Rattle.mm_names.specs.Marked.{is_marked};
+ghost use Rattle.mm_names.specs.Marked.{is_marked, with_number};
 
 use crate::statement::{Kind, Statement};
-use mm_names::Marks;
+use mm_names::{Gathered, Marks, SymbolTable};
 use std::alloc::{AllocError, Global};
 
 /// Marks each of the numbers.
@@ -21,83 +22,92 @@ pub fn mark_all(marks: &mut Marks, numbers: &[u32]) -> Result<(), AllocError>
     Ok(())
 }
 
-/// The symbols of a `$e`; none of another statement.
-fn essential_symbols(statements: &[Statement], id: u32) -> &[u32]
-    ensures { result.now ≡ essential_symbols (statement_at (map stated statements.now) id) }
+/// The symbols of a statement; none where there is none.
+fn symbols_at(statements: &[Statement], id: u32) -> &[u32]
+    ensures { result.now ≡ (statement_at (map stated statements.now) id).symbols }
 {
     match statements.get(id as usize) {
-        Some(statement) => match statement.kind {
-            Kind::Essential => statement.symbols.as_slice(),
-            _ => &[],
-        },
+        Some(statement) => statement.symbols.as_slice(),
         None => &[],
     }
 }
 
-/// Marks the symbols of the `$e` among active hypotheses.
-fn mark_essentials(
-    marks: &mut Marks,
-    statements: &[Statement],
-    active: &[u32],
-) -> Result<(), AllocError>
-    ensures { OnOk result ((n : ℕ) → is_marked marks.new n ≡ (is_marked marks.old n || list_any (λ m. n == m) (flat_map (λ id. essential_symbols (statement_at (map stated statements.now) id)) active.now))) }
+/// Gathers numbers.
+fn gather_all(gathered: &mut Gathered, numbers: &[u32]) -> Result<(), AllocError>
+    ensures { OnOk result (gathered.new ≡ fold with_number gathered.old numbers.now) }
 {
-    for id in active {
-        mark_all(marks, essential_symbols(statements, *id))?;
+    for number in numbers {
+        gathered.insert(*number)?;
     }
     Ok(())
 }
 
-/// Whether an active hypothesis is mandatory where the needed symbols are marked.
-fn is_mandatory(statements: &[Statement], marks: &Marks, id: u32) -> bool
-    ensures { result ≡ is_mandatory_by (statement_at (map stated statements.now) id).kind (is_marked marks.now (slice_index (statement_at (map stated statements.now) id).symbols 1)) }
+/// Gathers the ids of the active `$f` of symbols.
+fn gather_floats(
+    gathered: &mut Gathered,
+    table: &SymbolTable,
+    symbols: &[u32],
+) -> Result<(), AllocError>
+    ensures { OnOk result (gathered.new ≡ fold with_number gathered.old (floats_of table.now symbols.now)) }
 {
-    match statements.get(id as usize) {
-        Some(statement) => match statement.kind {
-            Kind::Essential => true,
-            Kind::Float => match statement.symbols.get(1) {
-                Some(variable) => marks.is_marked(*variable),
-                None => marks.is_marked(0),
-            },
-            _ => false,
-        },
-        None => false,
-    }
-}
-
-/// The mandatory ones among active hypotheses, in order, where the needed symbols are marked.
-fn mandatory_marked(
-    alloc: Global,
-    statements: &[Statement],
-    marks: &Marks,
-    active: &[u32],
-) -> Result<Vec<u32>, AllocError>
-    ensures { IfOk result (λ v. v.items ≡ filter (λ id. is_mandatory_by (statement_at (map stated statements.now) id).kind (is_marked marks.now (slice_index (statement_at (map stated statements.now) id).symbols 1))) active.now) }
-{
-    let mut found = Vec::new(alloc);
-    for id in active {
-        if is_mandatory(statements, marks, *id) {
-            found.push(*id)?;
+    for symbol in symbols {
+        let standing = table.standing(*symbol);
+        if standing.floated {
+            gathered.insert(standing.float)?;
         }
     }
-    Ok(found)
+    Ok(())
 }
 
-/// The ids of the mandatory hypotheses of an assertion with these symbols, in order.
-#[tactic(auto, unfolding(crate::specs::Mandatory::mandatory_of))]
+/// Gathers the ids of the active `$f` of the symbols of statements.
+fn gather_floats_at(
+    gathered: &mut Gathered,
+    table: &SymbolTable,
+    statements: &[Statement],
+    ids: &[u32],
+) -> Result<(), AllocError>
+    ensures { OnOk result (gathered.new ≡ fold with_number gathered.old (floats_of table.now (flat_map (λ id. (statement_at (map stated statements.now) id).symbols) ids.now))) }
+{
+    for id in ids {
+        gather_floats(gathered, table, symbols_at(statements, *id))?;
+    }
+    Ok(())
+}
+
+/// Gathers the ids of the mandatory hypotheses of an assertion with these symbols.
+#[tactic(auto, using(crate::proofs::Gathering::all_gathered))]
+fn gather_needed(
+    gathered: &mut Gathered,
+    table: &SymbolTable,
+    statements: &[Statement],
+    essentials: &[u32],
+    symbols: &[u32],
+) -> Result<(), AllocError>
+    ensures { OnOk result (gathered.new ≡ fold with_number [] (candidates table.now (map stated statements.now) essentials.now symbols.now)) }
+{
+    gathered.clear();
+    gather_all(gathered, essentials)?;
+    gather_floats(gathered, table, symbols)?;
+    gather_floats_at(gathered, table, statements, essentials)
+}
+
+/// The ids of the mandatory hypotheses of an assertion with these symbols, in order. It takes the time of a walk over
+/// its symbols and those of the active `$e`, and of sorting what it answers.
+#[tactic(auto, unfolding(crate::specs::Needed::needed_by))]
 pub fn mandatory_of(
     alloc: Global,
-    marks: &mut Marks,
+    gathered: &mut Gathered,
+    table: &SymbolTable,
     statements: &[Statement],
-    active: &[u32],
+    essentials: &[u32],
     symbols: &[u32],
 ) -> Result<Vec<u32>, AllocError>
-    ensures { IfOk result (λ v. v.items ≡ mandatory_of (map stated statements.now) active.now symbols.now) }
+    ensures { IfOk result (λ v. v.items ≡ needed_by table.now (map stated statements.now) essentials.now symbols.now) }
 {
-    marks.clear();
-    mark_all(marks, symbols)?;
-    mark_essentials(marks, statements, active)?;
-    mandatory_marked(alloc, statements, marks, active)
+    gather_needed(gathered, table, statements, essentials, symbols)?;
+    let mut needed = Vec::from_slice(alloc, gathered.as_slice())?;
+    needed.sort()?;
+    Ok(needed)
 }
 
 /// The variable of a `$f`; none of another statement.

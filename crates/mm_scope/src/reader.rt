@@ -17,7 +17,7 @@ use crate::mode::Mode;
 use crate::statement::{Kind, Statement};
 use mm_distinct::Partings;
 use mm_layers::Layers;
-use mm_names::{Gathered, Marks, NOTHING, Names, Standing, SymbolTable};
+use mm_names::{Gathered, NOTHING, Names, Standing, SymbolTable};
 use mm_tokens::Span;
 use mm_words::{Word, is_bad_label, is_bad_symbol};
 use std::alloc::Global;
@@ -37,6 +37,7 @@ pub struct Reader {
     pub blocks: Vec<Block>,
     pub partings: Partings,
     pub actives: Layers,
+    pub essentials: Layers,
     pub variables: Layers,
     pub known: Vec<u32>,
     pub mode: Mode,
@@ -46,7 +47,7 @@ pub struct Reader {
     pub buffer: Gathered,
     pub proof: u64,
     pub comment: Option<Span>,
-    pub marks: Marks,
+    pub needed: Gathered,
 }
 
 impl Reader {
@@ -155,8 +156,7 @@ impl Reader {
             text,
             Standing {
                 constant: true,
-                active: false,
-                floated: false,
+                ..NOTHING
             },
         )?;
         self.buffer.push(found.number)?;
@@ -300,11 +300,13 @@ impl Reader {
     ) -> Result<(), ReadFault>
         ensures { Gives self.new result (Ok (finished_assertion (state_of self.old) kind from to)) }
     {
+        let essentials = self.essentials.now().to_vec(alloc)?;
         let mandatory = mandatory_of(
             alloc,
-            &mut self.marks,
+            &mut self.needed,
+            &self.symbols,
             self.statements.as_slice(),
-            self.hypotheses.as_slice(),
+            essentials.as_slice(),
             self.buffer.as_slice(),
         )?;
         let variables = variables_of(alloc, self.statements.as_slice(), mandatory.as_slice())?;
@@ -362,11 +364,13 @@ impl Reader {
             return Err(ReadFault::WrongForm(place));
         }
         let variable = self.buffer.as_slice()[1];
+        let id = self.labels.len() as u32;
         let standing = self.symbols.standing(variable);
         self.symbols.set(
             variable,
             Standing {
                 floated: true,
+                float: id,
                 ..standing
             },
         );
@@ -396,6 +400,8 @@ impl Reader {
         if self.buffer.is_empty() {
             return Err(ReadFault::WrongForm(place));
         }
+        let id = self.labels.len() as u32;
+        self.essentials.push(id)?;
         self.finish_hypothesis(alloc, Kind::Essential)
     }
 
@@ -506,6 +512,7 @@ impl Reader {
                 })?;
                 self.partings.open()?;
                 self.actives.open()?;
+                self.essentials.open()?;
                 self.variables.open()?;
                 Ok(())
             }
@@ -520,6 +527,7 @@ impl Reader {
     {
         self.partings.close();
         self.actives.close();
+        self.essentials.close();
         self.variables.close();
         if let Some(block) = self.blocks.pop() {
             end_from(&mut self.symbols, &mut self.endings, block.endings);

@@ -11,7 +11,7 @@ use crate::mode::Mode;
 use crate::reader::Reader;
 use mm_distinct::Partings;
 use mm_layers::Layers;
-use mm_names::{Gathered, Marks, Names, SymbolTable};
+use mm_names::{Gathered, Names, SymbolTable};
 use mm_tokens::{Piece, Scanner, Token};
 use mm_words::word_of;
 use std::alloc::Global;
@@ -30,6 +30,7 @@ pub fn new_reader(alloc: Global) -> Reader
         blocks: Vec::new(alloc),
         partings: Partings::new(alloc),
         actives: Layers::new(alloc),
+        essentials: Layers::new(alloc),
         variables: Layers::new(alloc),
         known: Vec::new(alloc),
         mode: Mode::Start,
@@ -39,7 +40,7 @@ pub fn new_reader(alloc: Global) -> Reader
         buffer: Gathered::new(alloc),
         proof: 0,
         comment: None,
-        marks: Marks::new(alloc),
+        needed: Gathered::new(alloc),
     }
 }
 

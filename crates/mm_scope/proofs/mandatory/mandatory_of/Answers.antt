@@ -1,9 +1,12 @@
-use Rattle.std.proofs.Common.{◌∙◌, map}
+use Rattle.std.proofs.Common.{◌∙◌, map, subst}
+use Rattle.std.specs.List.Sorted.{IsPermutation}
 use Rattle.mm_scope.specs.Keeps.{stated}
-use Rattle.mm_scope.proofs.Needed.{if_ok_map, marked_mandatory}
+use Rattle.mm_scope.specs.Needed.{candidates, needed_by}
+use Rattle.mm_scope.proofs.Rising.{sorted_needed}
 use Rattle.mm_scope.proofs.mandatory.mandatory_of.Goals as goal
 
 pub returns : goal.returns
+unfolding needed_by
 returns c =
-    if_ok_map c.mandatory_marked.result _ _ (λ v e. e ∙ marked_mandatory (map stated c.args.statements.now) c.args.active.now c.args.symbols.now
-    c.clear.new.self c.mark_all.new.marks c.mark_essentials.new.marks c.clear.ensures c.in_ok-mark_all.ensures c.in_ok-mark_essentials.ensures) c.mandatory_marked.ensures
+    sorted_needed (candidates c.args.table.now (map stated c.args.statements.now) c.args.essentials.now c.args.symbols.now) c.sort.new.self.items
+    (subst (λ xs. IsPermutation xs c.sort.new.self.items) (c.in_ok-needed.ensures.items ∙ c.as_slice.ensures ∙ c.in_ok-gather_needed.ensures) c.sort.ensures.permutation) c.in_ok-sort.ensures.sorted
