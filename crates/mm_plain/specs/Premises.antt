@@ -2,8 +2,8 @@
 use Rattle.std.specs.Prelude.{ℕ, Bool, ◌==◌, List, [], map, nat_lt, if◌then◌else◌}
 use Rattle.std.specs.List.{list_any}
 use Rattle.mm_scope.specs.Contents.{statements_of, stated_at, active_at}
-use Rattle.mm_scope.specs.Mandatory.{variables_of}
-use Rattle.mm_scope.specs.Stated.{is_hypothesis}
+use Rattle.mm_stated.specs.Mandatory.{variables_of}
+use Rattle.mm_stated.specs.Stated.{is_hypothesis}
 use Rattle.mm_subst.specs.Statements.{statement_of}
 use Rattle.mm_subst.specs.declared.symbol.WSym.{WSym}
 

@@ -16,11 +16,11 @@ use Rattle.mm_layers.specs.Layered.{Layered, pushed}
 use Rattle.mm_layers.specs.Moves.{in_force}
 use Rattle.mm_scope.specs.Moves.{stack, IsBalanced}
 use Rattle.mm_tokens.specs.declared.pieces.Span.{Span}
-use Rattle.mm_scope.specs.Mandatory.{an_assertion_with, an_assertion, mandatory_of}
-use Rattle.mm_scope.specs.Needed.{needed_by}
-use Rattle.mm_scope.specs.Stated.{Stated, a_hypothesis}
-use Rattle.mm_scope.specs.declared.statement.Kind.{Kind}
-use Rattle.mm_scope.specs.declared.statement.Kind.TheVariants as kind
+use Rattle.mm_stated.specs.Mandatory.{an_assertion_with, an_assertion, mandatory_of}
+use Rattle.mm_stated.specs.Needed.{needed_by}
+use Rattle.mm_stated.specs.Stated.{Stated, a_hypothesis}
+use Rattle.mm_stated.specs.declared.statement.Kind.{Kind}
+use Rattle.mm_stated.specs.declared.statement.Kind.TheVariants as kind
 use Rattle.mm_names.specs.declared.table.Standing.{Standing}
 use Rattle.mm_scope.specs.declared.ending.Ending.TheVariants.{Active, Floated}
 use Rattle.mm_scope.proofs.Floats.{last_float}

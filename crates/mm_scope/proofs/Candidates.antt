@@ -10,16 +10,16 @@ use Rattle.mm_names.specs.declared.table.Standing.{Standing}
 use Rattle.mm_scope.specs.Contexts.{Context}
 use Rattle.mm_scope.specs.Events.{Event, statements, active_hypotheses}
 use Rattle.mm_scope.specs.Looks.{moves, is_floated_of}
-use Rattle.mm_scope.specs.Mandatory.{statement_at, symbols_with, is_mandatory, is_mandatory_by, mandatory_of}
-use Rattle.mm_scope.specs.Needed.{rising, floats_of, candidates, needed_by}
-use Rattle.mm_scope.specs.Stated.{Stated, is_essential, is_same_kind}
-use Rattle.mm_scope.specs.declared.statement.Kind.{Kind}
-use Rattle.mm_scope.specs.declared.statement.Kind.TheVariants as kind
+use Rattle.mm_stated.specs.Mandatory.{statement_at, symbols_with, is_mandatory, is_mandatory_by, mandatory_of}
+use Rattle.mm_stated.specs.Needed.{rising, floats_of, candidates, needed_by}
+use Rattle.mm_stated.specs.Stated.{Stated, is_essential, is_same_kind}
+use Rattle.mm_stated.specs.declared.statement.Kind.{Kind}
+use Rattle.mm_stated.specs.declared.statement.Kind.TheVariants as kind
 use Rattle.mm_scope.proofs.Booleans.{list_any-append}
 use Rattle.mm_scope.proofs.Floats.{last_float, floats_it, FloatsKnown, active_rises, floated_as, essential_moves, essentials_in, essentials_as, any_of}
 use Rattle.mm_scope.proofs.Layering.{LayersAgree}
 use Rattle.mm_scope.proofs.LookBack.{holds}
-use Rattle.mm_scope.proofs.Rising.{same_rising, rises_filter, rising_rises, rising_any, or_here, or_later}
+use Rattle.mm_stated.proofs.Rising.{same_rising, rises_filter, rising_rises, rising_any, or_here, or_later}
 use Rattle.mm_scope.proofs.Simulation.{Agrees}
 
 any_filter : (k : ℕ) (p : ℕ → Bool) (xs : List ℕ) → list_any (nat_eq k) (filter p xs) ≡ (p k && list_any (nat_eq k) xs)

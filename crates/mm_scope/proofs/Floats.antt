@@ -9,13 +9,13 @@ use Rattle.mm_layers.specs.Moves.{Move, in_force}
 use Rattle.mm_layers.specs.Moves as move
 use Rattle.mm_scope.specs.Events.{Event, constant, variable, float, essential, asserted, theorem, distinct, opened, closed, labels, statements, hypothesis_moves, active_hypotheses}
 use Rattle.mm_scope.specs.Looks.{moves, is_floated_of}
-use Rattle.mm_scope.specs.Mandatory.{statement_at}
-use Rattle.mm_scope.specs.Stated.{Stated, no_statement, a_hypothesis, is_essential, is_same_kind}
-use Rattle.mm_scope.specs.declared.statement.Kind.TheVariants as kind
+use Rattle.mm_stated.specs.Mandatory.{statement_at}
+use Rattle.mm_stated.specs.Stated.{Stated, no_statement, a_hypothesis, is_essential, is_same_kind}
+use Rattle.mm_stated.specs.declared.statement.Kind.TheVariants as kind
 use Rattle.mm_scope.specs.declared.ending.Ending.TheVariants.{Active, Floated}
 use Rattle.mm_scope.proofs.Booleans.{list_any-append}
 use Rattle.mm_scope.proofs.Declared.{any_pushed, or_false}
-use Rattle.mm_scope.proofs.Rising.{Rises, rises_push, or_here, or_later}
+use Rattle.mm_stated.proofs.Rising.{Rises, rises_push, or_here, or_later}
 
 -- blocks, and the `$e` that end with them, by id
 unfoldable pub essential_moves : List Event → List (Move ℕ)

@@ -8,8 +8,8 @@ use Rattle.mm_scope.specs.Contexts.{Context, add_to}
 use Rattle.mm_scope.specs.Events.{Event, constant, variable, float, essential, asserted, theorem, distinct, opened, closed, symbols, labels, statements, hypothesis_moves, active_hypotheses, open_blocks}
 use Rattle.mm_scope.specs.Laws.{LabelsDiffer}
 use Rattle.mm_scope.specs.Looks.{known_as}
-use Rattle.mm_scope.specs.declared.statement.Kind.{Kind}
-use Rattle.mm_scope.specs.declared.statement.Kind.TheVariants as kind
+use Rattle.mm_stated.specs.declared.statement.Kind.{Kind}
+use Rattle.mm_stated.specs.declared.statement.Kind.TheVariants as kind
 use Rattle.mm_scope.proofs.Agreements.{IsReady, not_there, agrees_constant, agrees_variable, agrees_float, agrees_essential, agrees_asserted, agrees_theorem, agrees_distinct}
 use Rattle.mm_scope.proofs.Candidates.{needed_is}
 use Rattle.mm_scope.proofs.Floats.{FloatsKnown, last_float, known_float, known_essential, known_asserted, known_theorem, known_opened, known_closed}

@@ -1,6 +1,5 @@
 mod Booleans
 mod Counting
-mod Gathered
 mod Closing
 mod ActiveNow
 mod Loops
@@ -9,8 +8,6 @@ mod LookBack
 mod Stacks
 mod Flags
 mod Declared
-mod Rising
-mod Gathering
 mod Simulation
 mod Agreements
 mod Hypotheses

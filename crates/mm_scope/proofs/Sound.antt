@@ -6,9 +6,9 @@ use Rattle.std.proofs.lemmas.List.Elements.{All-push, All-nil, All-filter, All-t
 use Rattle.std.proofs.Math.Seq.{get_or-append_seam}
 use Rattle.mm_scope.specs.Contexts.{Context}
 use Rattle.mm_scope.specs.Events.{Event, labels, statements, active_hypotheses}
-use Rattle.mm_scope.specs.Mandatory.{statement_at, symbols_with, is_mandatory, mandatory_of}
-use Rattle.mm_scope.specs.Stated.{Stated, no_statement, is_hypothesis}
-use Rattle.mm_scope.specs.declared.statement.Kind.TheVariants as kind
+use Rattle.mm_stated.specs.Mandatory.{statement_at, symbols_with, is_mandatory, mandatory_of}
+use Rattle.mm_stated.specs.Stated.{Stated, no_statement, is_hypothesis}
+use Rattle.mm_stated.specs.declared.statement.Kind.TheVariants as kind
 use Rattle.mm_scope.proofs.Stacks.{below_or}
 
 pub record StatementSound (ss : List Stated) (id : ℕ) : Type 0 where

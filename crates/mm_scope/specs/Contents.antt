@@ -1,18 +1,19 @@
 -- What a database says, as functions of its bytes.
-use Rattle.std.specs.Prelude.{◌≡◌, ◌≤◌, ◌<◌, ℕ, Bool, true, not, ◌&&◌, ◌||◌, ◌==◌, List, [], Option, None, Some, Result, Ok, Err, is_ok, length, position, slice_index_or, filter, filter_map, count_by, All, nat_le, nat_lt, ◌∷◌, ◌++◌, if◌then◌else◌}
-use Rattle.std.specs.List.{list_any, range_with_len}
+use Rattle.std.specs.Prelude.{◌≡◌, ◌≤◌, ◌<◌, ℕ, Bool, true, not, ◌&&◌, ◌||◌, ◌==◌, List, [], Option, None, Some, Result, Ok, Err, is_ok, length, position, slice_index_or, count_by, All, nat_le, nat_lt, ◌∷◌, if◌then◌else◌}
+use Rattle.std.specs.List.{list_any}
 use Rattle.std.specs.Str.{bytes_eq}
 use Rattle.mm_distinct.specs.Distinct.{pairs_among}
-use Rattle.mm_names.specs.Marked.{is_marked}
 use Rattle.mm_tokens.specs.declared.pieces.Span.{Span}
 use Rattle.mm_scope.specs.Databases.{database_of}
 use Rattle.mm_scope.specs.Events.{Event, symbols, labels, statements, active_hypotheses, active_variables, active_distinct}
 use Rattle.mm_scope.specs.Looks.{constants, look_back}
-use Rattle.mm_scope.specs.Mandatory.{variables_of}
-use Rattle.mm_scope.specs.Stated.{Stated, no_statement, is_hypothesis, is_same_kind, typecode_of}
+use Rattle.mm_stated.specs.Ordered.{ordered_variables}
+use Rattle.mm_stated.specs.Typecodes.{is_typecode_among}
+use Rattle.mm_stated.specs.Mandatory.{variables_of}
+use Rattle.mm_stated.specs.Stated.{Stated, no_statement, is_hypothesis, is_same_kind}
 use Rattle.mm_scope.specs.Steps.{Answers}
-use Rattle.mm_scope.specs.declared.statement.Kind.{Kind}
-use Rattle.mm_scope.specs.declared.statement.Kind.TheVariants as kind
+use Rattle.mm_stated.specs.declared.statement.Kind.{Kind}
+use Rattle.mm_stated.specs.declared.statement.Kind.TheVariants as kind
 use Rattle.mm_scope.specs.declared.fault.ReadFault.{ReadFault}
 
 abbrev pub events_in : Result (List Event) ReadFault → List Event
@@ -57,12 +58,6 @@ variables_at bytes id = active_variables (past_before id (events_of bytes))
 unfoldable pub distinct_at : List ℕ → ℕ → List (List ℕ)
 distinct_at bytes id = active_distinct (past_before id (events_of bytes))
 
--- the variables of the active `$f` in order, and then the other active ones by number
-abbrev pub ordered_variables : List ℕ → List ℕ → ℕ → List ℕ
-ordered_variables floated active count =
-    floated
-    ++ filter (λ n. list_any (λ m. n == m) active && not (list_any (λ m. n == m) floated)) (range_with_len 0 count)
-
 abbrev pub ordered_at : List ℕ → ℕ → List ℕ
 ordered_at bytes id =
     ordered_variables (variables_of (statements_of bytes) (active_at bytes id)) (variables_at bytes id) (length (symbols_of bytes))
@@ -93,13 +88,6 @@ active_symbol_at bytes id text = symbol_by (look_back (past_before id (events_of
 abbrev pub is_active_number : List ℕ → ℕ → ℕ → Bool → Bool
 is_active_number bytes id n constant =
     nat_lt n (length (symbols (past_before id (events_of bytes)))) && (constant || list_any (λ m. n == m) (variables_at bytes id))
-
-abbrev pub is_typecode_among : List Stated → ℕ → Bool
-is_typecode_among statements s = list_any (λ n. s == n) (filter_map typecode_of statements)
-
--- the marks are on the typecodes of the `$f` among statements
-abbrev pub AreTypecodes : List Bool → List Stated → Type 0
-AreTypecodes marks statements = (n : ℕ) → is_marked marks n ≡ is_typecode_among statements n
 
 -- whether a symbol is the typecode of some `$f`
 abbrev pub is_typecode_of : List ℕ → ℕ → Bool

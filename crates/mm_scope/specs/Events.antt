@@ -4,9 +4,9 @@ use Rattle.mm_names.specs.Texts.{with_text}
 use Rattle.mm_tokens.specs.declared.pieces.Span.{Span}
 use Rattle.mm_layers.specs.Moves.{Move, in_force}
 use Rattle.mm_layers.specs.Moves as move
-use Rattle.mm_scope.specs.Mandatory.{an_assertion}
-use Rattle.mm_scope.specs.Stated.{Stated, a_hypothesis}
-use Rattle.mm_scope.specs.declared.statement.Kind.TheVariants as kind
+use Rattle.mm_stated.specs.Mandatory.{an_assertion}
+use Rattle.mm_stated.specs.Stated.{Stated, a_hypothesis}
+use Rattle.mm_stated.specs.declared.statement.Kind.TheVariants as kind
 
 -- Symbols are given by their text and number where they are declared, and by their number elsewhere. A labelled
 -- statement has its label, its symbols and its description; a theorem also where its proof begins and ends.

@@ -8,20 +8,8 @@ use Rattle.mm_scope.specs.Until.{is_active_by}
 use Rattle.mm_scope.specs.Contents.{is_read, events_of, past_before, symbols_of, labels_of, statements_of, active_at, variables_at, distinct_at, IsSound}
 use Rattle.mm_scope.specs.Events.{symbols}
 use Rattle.mm_scope.specs.Looks.{constants}
-use Rattle.mm_scope.specs.Stated.{Stated}
-use Rattle.mm_scope.specs.declared.statement.Statement.{Statement}
-
--- a statement without where it lies in memory
-abbrev pub stated : Statement → Stated
-stated s = record {
-  kind = s.kind;
-  symbols = s.symbols.items;
-  mandatory = s.mandatory.items;
-  pairs = s.pairs.items;
-  from = s.from;
-  to = s.to;
-  described = s.described;
-}
+use Rattle.mm_stated.specs.Statements.{stated}
+use Rattle.mm_stated.specs.declared.statement.Statement.{Statement}
 
 -- the tables are those that the bytes say
 pub record Keeps (bytes : List ℕ) (table : Standings) (labels : List (List ℕ)) (statements : List Statement) (until : List (Option ℕ)) : Type 0 where

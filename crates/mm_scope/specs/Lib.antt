@@ -1,6 +1,3 @@
-pub mod Stated
-pub mod Mandatory
-pub mod Needed
 pub mod Moves
 pub mod Events
 pub mod Steps

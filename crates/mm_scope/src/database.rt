@@ -1,28 +1,27 @@
 //! A database that is read.
 
 ghost use Rattle.std.specs.List.{list_any};
-ghost use Rattle.std.specs.Prelude.{◌≡◌, ◌<◌, ◌==◌, ◌≤◌, ℕ, true, All, IfOk, IfSome, Ok, Some, length, map, slice_get, count_by};
+ghost use Rattle.std.specs.Prelude.{◌≡◌, ◌<◌, ◌==◌, ◌≤◌, ℕ, true, All, IfOk, IfSome, Ok, Some, length, map, position, slice_get, count_by};
 ghost use Rattle.std.specs.Option.{option_map};
+ghost use Rattle.std.specs.Str.{bytes_eq};
 ghost use Rattle.mm_scope.specs.Answered.{AnswersRead};
-ghost use Rattle.mm_scope.specs.Contents.{is_read, labels_of, statements_of, symbols_of, stated_at, active_at, active_of, active_pairs_of, distinct_at, ordered_at, find_label, count_kind, is_variable_of, is_typecode_of, AreTypecodes, is_active_number, active_symbol_at, proof_span_of, IsSound};
-ghost use Rattle.mm_scope.specs.Keeps.{stated};
+ghost use Rattle.mm_scope.specs.Contents.{is_read, labels_of, statements_of, symbols_of, stated_at, active_at, active_of, active_pairs_of, distinct_at, ordered_at, find_label, count_kind, is_variable_of, is_typecode_of, is_active_number, active_symbol_at, proof_span_of, IsSound};
+ghost use Rattle.mm_stated.specs.Typecodes.{AreTypecodes};
+ghost use Rattle.mm_stated.specs.Statements.{stated};
 ghost use Rattle.mm_scope.specs.ByTables.{tables_of};
 ghost use Rattle.mm_scope.specs.Contexts.{state_of};
 ghost use Rattle.mm_scope.specs.Until.{is_before};
-ghost use Rattle.mm_scope.specs.Stated.{is_hypothesis, is_same_kind};
-ghost use Rattle.mm_scope.specs.declared.statement.Kind.TheVariants.{Float};
+ghost use Rattle.mm_stated.specs.Stated.{is_hypothesis, is_same_kind};
+ghost use Rattle.mm_stated.specs.declared.statement.Kind.TheVariants.{Float};
 
 use crate::fault::ReadFault;
 use crate::file::read_file;
-use crate::floated::typecodes_of;
 use crate::frame::{Active, ActivePairs, Frame, Ids, Pairs, Symbols};
-use crate::mandatory::variables_of;
 use crate::reader::Reader;
-use crate::statement::{Kind, Statement};
-use crate::variables::ordered_variables;
 use mm_distinct::{Pair, Parted, Partings};
 use mm_layers::Layers;
 use mm_names::{Found, Marks, Names, SymbolTable};
+use mm_stated::{Kind, Statement, ordered_variables, typecodes_of, variables_of};
 use mm_tokens::Span;
 use std::alloc::{AllocError, Global};
 use std::marker::Model;
@@ -56,7 +55,8 @@ impl Model for Database {
     ghost Value = { List ℕ };
 
     ghost use Rattle.mm_scope.specs.Keeps.{Keeps, KeepsMoments};
-    ghost use Rattle.mm_scope.specs.Contents.{AreTypecodes, statements_of};
+    ghost use Rattle.mm_scope.specs.Contents.{statements_of};
+    ghost use Rattle.mm_stated.specs.Typecodes.{AreTypecodes};
 
     ghost view = { λ d. d.bytes.items };
 
@@ -224,6 +224,14 @@ impl Database {
         ensures { slice_get (symbols_of self.now) symbol.0 ≡ Some result.now }
     {
         self.symbols.names().text(symbol.0 as usize)
+    }
+
+    /// The symbol with a text, active or not; `None` where no symbol has it.
+    pub fn symbol_with(&self, text: &[u8]) -> Option<Sym>
+        ensures value { option_map (λ s. s.0) result ≡ position (bytes_eq text.now) (symbols_of self.now) }
+        ensures own { IfSome result (λ s. s.0 < length (symbols_of self.now)) }
+    {
+        self.symbols.names().find(text).map(Sym)
     }
 
     /// Whether a symbol is a variable, and no constant.

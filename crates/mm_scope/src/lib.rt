@@ -8,21 +8,17 @@ mod description;
 mod ending;
 mod fault;
 mod file;
-mod floated;
 mod frame;
 mod laws;
-mod mandatory;
 mod mode;
 mod reader;
 mod reading;
-mod statement;
 #[cfg(test)]
 mod tests;
-mod variables;
 
 pub use database::{Database, StmtId, Sym};
 pub use fault::ReadFault;
 pub use frame::{Active, ActivePairs, Frame, Ids, Pairs, Symbols};
 pub use laws::{first_bytes_decide, labels_differ, symbols_are_declared};
+pub use mm_stated::Kind;
 pub use mm_words::white_space_folds;
-pub use statement::Kind;

@@ -2,7 +2,7 @@
 
 use crate::database::{Database, StmtId, Sym};
 use crate::fault::ReadFault;
-use crate::statement::Kind;
+use mm_stated::Kind;
 use mm_tokens::Span;
 use std::alloc::Global;
 use std::test::Fail;

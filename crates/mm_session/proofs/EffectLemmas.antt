@@ -12,8 +12,8 @@ use Rattle.mm_scope.specs.Databases.{database_of}
 use Rattle.mm_scope.specs.Events.{Event}
 use Rattle.mm_scope.specs.declared.fault.ReadFault.{ReadFault}
 use Rattle.mm_scope.specs.declared.fault.ReadFault.TheVariants as fault
-use Rattle.mm_scope.specs.declared.statement.Kind.{Kind}
-use Rattle.mm_scope.specs.declared.statement.Kind.TheVariants.{Float, Essential, Axiom, Theorem}
+use Rattle.mm_stated.specs.declared.statement.Kind.{Kind}
+use Rattle.mm_stated.specs.declared.statement.Kind.TheVariants.{Float, Essential, Axiom, Theorem}
 use Rattle.mm_stack.specs.Decoding.{is_compressed}
 use Rattle.mm_session.specs.declared.state.State.{State}
 use Rattle.mm_session.specs.declared.reply.Reply.{Reply}

@@ -6,8 +6,8 @@ use Rattle.mm_scope.specs.Contents.{is_read, find_label, stated_at}
 use Rattle.mm_scope.specs.Databases.{database_of}
 use Rattle.mm_scope.specs.Events.{Event}
 use Rattle.mm_scope.specs.declared.fault.ReadFault.{ReadFault}
-use Rattle.mm_scope.specs.declared.statement.Kind.{Kind}
-use Rattle.mm_scope.specs.declared.statement.Kind.TheVariants.{Float, Essential, Axiom, Theorem}
+use Rattle.mm_stated.specs.declared.statement.Kind.{Kind}
+use Rattle.mm_stated.specs.declared.statement.Kind.TheVariants.{Float, Essential, Axiom, Theorem}
 use Rattle.mm_stack.specs.declared.outcome.Verdict.{Verdict}
 use Rattle.mm_stack.specs.declared.outcome.StackFault.{StackFault}
 use Rattle.mm_stack.specs.declared.outcome.Verdict.TheVariants.{Accepted, Incomplete, Faulty}

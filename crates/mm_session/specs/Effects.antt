@@ -1,8 +1,8 @@
 -- What each command does.
 use Rattle.std.specs.Prelude.{◌≡◌, ℕ, Bool, true, false, List, [], Option, Some, None, Result, Ok, Err}
 use Rattle.mm_base.specs.Files.{Map}
-use Rattle.mm_scope.specs.declared.statement.Kind.{Kind}
-use Rattle.mm_scope.specs.declared.statement.Kind.TheVariants.{Float, Essential, Axiom, Theorem}
+use Rattle.mm_stated.specs.declared.statement.Kind.{Kind}
+use Rattle.mm_stated.specs.declared.statement.Kind.TheVariants.{Float, Essential, Axiom, Theorem}
 use Rattle.mm_scope.specs.declared.fault.ReadFault.{ReadFault}
 use Rattle.mm_scope.specs.declared.fault.ReadFault.TheVariants.{Memory}
 use Rattle.mm_scope.specs.Contents.{find_label, stated_at}

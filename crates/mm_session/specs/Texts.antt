@@ -1,7 +1,7 @@
 -- The texts of replies. Each line ends with LF.
 use Rattle.std.specs.Prelude.{ℕ, List, [], ◌∷◌, ◌++◌, codes, length}
 use Rattle.std.specs.Fmt.{decimal}
-use Rattle.mm_scope.specs.declared.statement.Kind.TheVariants.{Axiom, Theorem}
+use Rattle.mm_stated.specs.declared.statement.Kind.TheVariants.{Axiom, Theorem}
 use Rattle.mm_scope.specs.Contents.{labels_of, count_kind}
 use Rattle.mm_scope.specs.Faults.{number_of, place_of}
 use Rattle.mm_scope.specs.declared.fault.ReadFault.{ReadFault}

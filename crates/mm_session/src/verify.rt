@@ -1,6 +1,6 @@
 ghost use Rattle.std.specs.Prelude.{◌≡◌, ◌<◌, ◌≢◌, length};
 ghost use Rattle.mm_scope.specs.Contents.{find_label, labels_of, stated_at};
-ghost use Rattle.mm_scope.specs.declared.statement.Kind.TheVariants.{Theorem};
+ghost use Rattle.mm_stated.specs.declared.statement.Kind.TheVariants.{Theorem};
 ghost use Rattle.mm_stack.specs.Decoding.{is_compressed};
 ghost use Rattle.mm_session.specs.Effect.{Meets, Faulted, outcome};
 ghost use Rattle.mm_session.specs.Effects.{verify_effect, verify_found, verify_kind, verify_proof};

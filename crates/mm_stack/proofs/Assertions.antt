@@ -6,7 +6,7 @@ use Rattle.std.specs.Prelude.{unwrap_or}
 use Rattle.std.proofs.lemmas.Option.{none-some}
 use Rattle.std.proofs.lemmas.List.{drop_more, drop_all, get_or-drop}
 use Rattle.std.proofs.lemmas.List.Folds.{list_all_at}
-use Rattle.mm_scope.specs.Stated.{Stated}
+use Rattle.mm_stated.specs.Stated.{Stated}
 use Rattle.mm_scope.specs.Contents.{stated_at}
 use Rattle.mm_stack.specs.Substitution.{value_of, instance}
 use Rattle.mm_stack.specs.Differing.{violations}

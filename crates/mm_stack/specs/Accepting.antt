@@ -2,7 +2,7 @@
 use Rattle.std.specs.Prelude.{◌≡◌, ℕ, true, false, List, [], ◌∷◌, Some, Result, Ok, Err, length, if◌then◌else◌}
 use Rattle.std.specs.Str.{bytes_eq}
 use Rattle.mm_scope.specs.Contents.{is_read, stated_at, find_label, distinct_at}
-use Rattle.mm_scope.specs.declared.statement.Kind.TheVariants.{Theorem}
+use Rattle.mm_stated.specs.declared.statement.Kind.TheVariants.{Theorem}
 use Rattle.mm_stack.specs.Decoding.{decoded, is_compressed}
 use Rattle.mm_stack.specs.Running.{run}
 use Rattle.mm_stack.specs.declared.outcome.ProofFault.{ProofFault}

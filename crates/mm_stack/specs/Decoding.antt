@@ -5,8 +5,8 @@ use Rattle.std.specs.Str.{bytes_eq}
 use Rattle.mm_tokens.specs.Pieces.{pieces_of, tokens_in}
 use Rattle.mm_tokens.specs.declared.pieces.Token.{Token}
 use Rattle.mm_scope.specs.Contents.{stated_at, find_label, active_at}
-use Rattle.mm_scope.specs.declared.statement.Kind.{Kind}
-use Rattle.mm_scope.specs.declared.statement.Kind.TheVariants as kind
+use Rattle.mm_stated.specs.declared.statement.Kind.{Kind}
+use Rattle.mm_stated.specs.declared.statement.Kind.TheVariants as kind
 use Rattle.mm_stack.specs.declared.outcome.ProofFault.{ProofFault}
 use Rattle.mm_stack.specs.declared.outcome.ProofFault.TheVariants.{NoSuchLabel, NotEarlier, HypothesisNotActive, EmptyProof}
 use Rattle.mm_stack.specs.declared.step.Step.{Step}

@@ -1,7 +1,7 @@
 -- What an assertion does to the stack, in the words of substitutions.
 use Rattle.std.specs.Prelude.{◌≡◌, ℕ, true, false, ◌==◌, List, [], ◌∷◌, ◌++◌, length, map, slice_index, if◌then◌else◌}
 use Rattle.std.specs.List.{list_any}
-use Rattle.mm_scope.specs.Stated.{Stated}
+use Rattle.mm_stated.specs.Stated.{Stated}
 use Rattle.mm_scope.specs.Contents.{stated_at}
 use Rattle.mm_stack.specs.Running.{is_float}
 use Rattle.mm_stack.specs.Substitution.{Binding, value_of, instance}

@@ -3,10 +3,10 @@
 use Rattle.std.specs.Prelude.{ℕ, ◌+◌, ◌-◌, Bool, true, false, not, ◌||◌, ◌==◌, nat_lt, List, [], ◌∷◌, ◌++◌, length, map, take, drop, slice_index, Result, Ok, Err, if◌then◌else◌}
 use Rattle.std.specs.List.{list_all}
 use Rattle.std.specs.Str.{bytes_eq}
-use Rattle.mm_scope.specs.Stated.{Stated}
+use Rattle.mm_stated.specs.Stated.{Stated}
 use Rattle.mm_scope.specs.Contents.{stated_at}
-use Rattle.mm_scope.specs.declared.statement.Kind.{Kind}
-use Rattle.mm_scope.specs.declared.statement.Kind.TheVariants as kind
+use Rattle.mm_stated.specs.declared.statement.Kind.{Kind}
+use Rattle.mm_stated.specs.declared.statement.Kind.TheVariants as kind
 use Rattle.mm_stack.specs.Differing.{violations}
 use Rattle.mm_stack.specs.Substitution.{Binding, value_of, instance}
 use Rattle.mm_stack.specs.declared.outcome.StackFault.{StackFault}

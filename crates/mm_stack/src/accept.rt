@@ -2,7 +2,7 @@
 
 ghost use Rattle.std.specs.Prelude.{◌≡◌, ◌<◌, List, ℕ, length, IfOk};
 ghost use Rattle.mm_scope.specs.Contents.{labels_of, stated_at};
-ghost use Rattle.mm_scope.specs.declared.statement.Kind.TheVariants.{Theorem};
+ghost use Rattle.mm_stated.specs.declared.statement.Kind.TheVariants.{Theorem};
 ghost use Rattle.mm_stack.specs.Accepting.{verdict_at, verdict_of, Judges};
 
 use crate::decode::{decode, is_compressed};

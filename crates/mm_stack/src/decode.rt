@@ -2,7 +2,7 @@
 
 ghost use Rattle.std.specs.Prelude.{◌≡◌, ◌≤◌, ◌<◌, ◌+◌, ◌^◌, length, slice_range, All, IfOk, Ok, Err};
 ghost use Rattle.mm_scope.specs.Contents.{labels_of, stated_at};
-ghost use Rattle.mm_scope.specs.declared.statement.Kind.TheVariants.{Theorem};
+ghost use Rattle.mm_stated.specs.declared.statement.Kind.TheVariants.{Theorem};
 ghost use Rattle.mm_tokens.specs.Pieces.{pieces_of, tokens_in};
 ghost use Rattle.mm_stack.specs.Decoding.{step_of, steps_in, decoded, begins_list, is_compressed};
 ghost use Rattle.mm_stack.specs.Machines.{IsOwn, GivesSteps};

@@ -1,7 +1,7 @@
 //! What the machine's definitions say together.
 
 ghost use Rattle.std.specs.Prelude.{◌≡◌, ℕ, List, Ok};
-ghost use Rattle.mm_scope.specs.Stated.{Stated};
+ghost use Rattle.mm_stated.specs.Stated.{Stated};
 ghost use Rattle.mm_stack.specs.Running.{applied};
 ghost use Rattle.mm_stack.specs.Laws.{AreApart, Substitutes, hypotheses_of, variables_of};
 

@@ -1,4 +1,3 @@
 pub mod Replaced
 pub mod Keys
 pub mod Prefixes
-pub mod Numbers

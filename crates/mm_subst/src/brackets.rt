@@ -5,7 +5,7 @@ ghost use Rattle.mm_subst.specs.Brackets.{number_of, bracket_of, brackets_of, ha
 
 use crate::string::WStr;
 use crate::symbol::WSym;
-use mm_scope::{Database, Sym};
+use mm_scope::Database;
 
 /// A pair of brackets, by the numbers of their symbols in a database; `None` where the database has no such symbol.
 #[derive(Clone, Copy, Debug, PartialEq, Eq)]
@@ -26,12 +26,7 @@ pub struct Brackets {
 fn number_of(db: &Database, text: &[u8]) -> Option<u32>
     ensures { result ≡ number_of db.now text.now }
 {
-    for number in 0..db.symbols() {
-        if text == db.symbol(Sym(number)) {
-            return Some(number);
-        }
-    }
-    None
+    db.symbol_with(text).map(|symbol| symbol.0)
 }
 
 fn has_number(number: Option<u32>, symbol: WSym) -> bool
@@ -74,7 +69,7 @@ impl Bracket {
 }
 
 impl Brackets {
-    /// The pairs of a database. It takes the time of a walk over all symbols.
+    /// The pairs of a database.
     pub fn of(db: &Database) -> Brackets
         ensures { result ≡ brackets_of db.now }
     {

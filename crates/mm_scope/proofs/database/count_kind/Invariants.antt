@@ -1,6 +1,6 @@
 use Rattle.std.proofs.Common.{◌≡◌, take, map, count_by}
-use Rattle.mm_scope.specs.Keeps.{stated}
-use Rattle.mm_scope.specs.Stated.{is_same_kind}
+use Rattle.mm_stated.specs.Statements.{stated}
+use Rattle.mm_stated.specs.Stated.{is_same_kind}
 use Rattle.mm_scope.proofs.database.count_kind.Given as goal
 
 abbrev pub invariant-loop-statement : goal.invariant-loop-statement

@@ -1,5 +1,5 @@
 use Rattle.std.proofs.Common.{subst}
-use Rattle.mm_scope.specs.Contents.{AreTypecodes}
+use Rattle.mm_stated.specs.Typecodes.{AreTypecodes}
 use Rattle.mm_scope.proofs.Tabled.{keeps, keeps_moments}
 use Rattle.mm_scope.proofs.database.database_of.Goals as goal
 

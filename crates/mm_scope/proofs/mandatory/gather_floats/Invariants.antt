@@ -1,8 +1,0 @@
-use Rattle.std.proofs.Common.{◌≡◌, drop, fold}
-use Rattle.mm_names.specs.Marked.{with_number}
-use Rattle.mm_scope.specs.Needed.{floats_of}
-use Rattle.mm_scope.proofs.mandatory.gather_floats.Given as goal
-
-abbrev pub invariant-loop-symbol : goal.invariant-loop-symbol
-invariant-loop-symbol l =
-    fold with_number l.gathered (floats_of l.table (drop l.symbol-index l.symbols)) ≡ fold with_number l.fn.gathered (floats_of l.table l.symbols)
