@@ -24,32 +24,22 @@ fn stated(alloc: Global, kind: Kind, symbols: &[u32]) -> Result<Statement, Alloc
 fn mandatory_hypotheses(rt: HostRuntime) -> Result<(), Fail> {
     let alloc = rt.alloc();
     let mut table = SymbolTable::new(alloc);
-    table.declare(alloc, b"wff", NOTHING)?;
     let floated = Standing {
         floated: true,
         ..NOTHING
     };
     table.declare(alloc, b"p", floated)?;
-    table.declare(
-        alloc,
-        b"q",
-        Standing {
-            float: 1,
-            ..floated
-        },
-    )?;
     let mut statements = Vec::new(alloc);
-    statements.push(stated(alloc, Kind::Float, &[0, 1])?)?;
-    statements.push(stated(alloc, Kind::Float, &[0, 2])?)?;
-    statements.push(stated(alloc, Kind::Essential, &[0, 1])?)?;
+    statements.push(stated(alloc, Kind::Float, &[1, 0])?)?;
+    statements.push(stated(alloc, Kind::Essential, &[1, 0])?)?;
     let all = statements.as_slice();
     let mut gathered = Gathered::new(alloc);
-    let needed = mandatory_of(alloc, &mut gathered, &table, all, &[2], &[0, 2])?;
-    assert_eq!(rt; needed.as_slice(), [0, 1, 2].as_slice());
+    let needed = mandatory_of(alloc, &mut gathered, &table, all, &[1], &[1])?;
+    assert_eq!(rt; needed.as_slice(), [0, 1].as_slice());
     let variables = variables_of(alloc, all, needed.as_slice())?;
-    assert_eq!(rt; variables.as_slice(), [1, 2].as_slice());
-    assert!(rt; typecodes_of(alloc, all)?.is_marked(0));
-    let ordered = ordered_variables(alloc, &[2], &[1, 2], 3)?;
-    assert_eq!(rt; ordered.as_slice(), [2, 1].as_slice());
+    assert_eq!(rt; variables.as_slice(), [0].as_slice());
+    assert!(rt; typecodes_of(alloc, all)?.is_marked(1));
+    let ordered = ordered_variables(alloc, &[2], &[0, 2], 3)?;
+    assert_eq!(rt; ordered.as_slice(), [2, 0].as_slice());
     Ok(())
 }
