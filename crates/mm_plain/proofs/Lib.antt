@@ -4,3 +4,5 @@ pub mod Depths
 pub mod Sizes
 pub mod Kept
 pub mod Read
+pub mod Walks
+pub mod Owned

@@ -2,3 +2,4 @@ pub mod Shape
 pub mod Premises
 pub mod Sources
 pub mod Valid
+pub mod Numbers

@@ -6,5 +6,5 @@
 mod laws;
 mod plain;
 
-pub use laws::{sizes_add_up, valid_proofs_stay_valid};
+pub use laws::{sizes_add_up, valid_proofs_name_own_statements, valid_proofs_stay_valid};
 pub use plain::Plain;

@@ -9,6 +9,4 @@ mod faults;
 #[cfg(test)]
 mod first_path;
 #[cfg(test)]
-mod frames;
-#[cfg(test)]
 mod session;

@@ -5,8 +5,6 @@
 mod floated;
 mod mandatory;
 mod statement;
-#[cfg(test)]
-mod tests;
 mod variables;
 
 pub use floated::typecodes_of;

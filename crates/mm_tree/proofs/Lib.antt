@@ -1,2 +1,4 @@
 pub mod Grown
 pub mod ByIds
+pub mod Behind
+pub mod Rooms

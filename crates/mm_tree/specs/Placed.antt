@@ -17,3 +17,10 @@ IsPlaced (Ok u) old now p = (now.proof ≡ p) × (size_of p.plain ≤ most_steps
 IsPlaced (Err TooManySteps) old now p = (now ≡ old) × (most_steps < size_of p.plain)
 IsPlaced (Err TooDeep) old now p = (now ≡ old) × (size_of p.plain ≤ most_steps) × (most_levels < height_of p.plain)
 IsPlaced (Err Memory) old now p = now ≡ old
+
+-- The proof p is not too large; or it is, in steps or else in levels.
+abbrev pub HasRoom : Result Unit GraftFault → Proof → Type 0
+HasRoom (Ok u) p = (size_of p.plain ≤ most_steps) × (height_of p.plain ≤ most_levels)
+HasRoom (Err TooManySteps) p = most_steps < size_of p.plain
+HasRoom (Err TooDeep) p = (size_of p.plain ≤ most_steps) × (most_levels < height_of p.plain)
+HasRoom (Err Memory) p = ⊥

@@ -1,12 +1,16 @@
 //! Nodes of proof trees.
 
-ghost use Rattle.std.specs.Prelude.{◌≡◌, ◌+◌, ◌<◌, ◌≤◌, ◌^◌, map};
-ghost use Rattle.mm_plain.specs.Shape.{size_of, height_of, greatest, unknown, known, step_at, put, seat, depth_at, target_of};
-ghost use Rattle.mm_plain.specs.Sources.{label_of};
-ghost use Rattle.std.specs.List.{sum_by};
+ghost use Rattle.std.specs.Prelude.{◌≡◌, ◌+◌, ◌<◌, ◌≤◌, ◌^◌, ◌++◌, map, is_none, OnOk};
+ghost use Rattle.mm_plain.specs.Shape.{size_of, height_of, greatest, unknown, known, step_at, put, seat, depth_at, target_of, steps_of};
+ghost use Rattle.mm_plain.specs.Sources.{label_of, is_pending};
+ghost use Rattle.mm_plain.specs.Numbers.{labels_in, numbers_from, unknowns_among, HasOwnLabels};
+ghost use Rattle.std.specs.List.{sum_by, last_or};
 
+use crate::sources::is_source;
 use mm_base::Made;
+use mm_scope::{Database, StmtId};
 use mm_subst::{Subst, WStr};
+use std::alloc::AllocError;
 use std::marker::Model;
 use std::mem;
 
@@ -158,6 +162,77 @@ impl Node {
             Step::Known(target, _, _, _) => target,
             Step::Unknown(target) => target,
         }
+    }
+
+    /// Appends what each step names, in order.
+    pub fn labels(&self, into: &mut Vec<Option<u32>>) -> Result<(), AllocError>
+        ensures { OnOk result (into.new.items ≡ into.old.items ++ labels_in self.now) }
+    {
+        match &self.step {
+            Step::Known(_, label, _, kids) => {
+                for kid in kids {
+                    kid.labels(into)?;
+                }
+                into.push(Some(*label))?;
+            }
+            Step::Unknown(_) => into.push(None)?,
+        }
+        Ok(())
+    }
+
+    /// How many steps are unknown.
+    pub fn unknowns(&self) -> u64
+        requires { size_of self.now < 2 ^ 63 }
+        ensures { result ≡ unknowns_among (labels_in self.now) }
+    {
+        match &self.step {
+            Step::Known(_, _, _, kids) => {
+                let mut unknowns = 0;
+                for kid in kids {
+                    unknowns += kid.unknowns();
+                }
+                unknowns
+            }
+            Step::Unknown(_) => 1,
+        }
+    }
+
+    /// The number of the last unknown step, where the first step has the number `first`; `found` where there is none.
+    pub fn last_unknown(&self, first: u32, found: Option<u32>) -> Option<u32>
+        requires { first + size_of self.now < 2 ^ 32 }
+        ensures { result ≡ last_or found (numbers_from is_none first (labels_in self.now)) }
+    {
+        match &self.step {
+            Step::Known(_, _, _, kids) => {
+                let mut next = first;
+                let mut last = found;
+                for kid in kids {
+                    last = kid.last_unknown(next, last);
+                    next += kid.size() as u32;
+                }
+                last
+            }
+            Step::Unknown(_) => Some(first),
+        }
+    }
+
+    /// Appends the numbers of the pending steps, in order, where the first step has the number `first`.
+    pub fn pending(&self, db: &Database, first: u32, into: &mut Vec<u32>) -> Result<(), AllocError>
+        requires few { first + size_of self.now < 2 ^ 32 }
+        requires own { HasOwnLabels db.now self.now }
+        ensures { OnOk result (into.new.items ≡ into.old.items ++ numbers_from (is_pending db.now) first (steps_of self.now)) }
+    {
+        if let Step::Known(target, label, sigma, kids) = &self.step {
+            let mut next = first;
+            for kid in kids {
+                kid.pending(db, next, into)?;
+                next += kid.size() as u32;
+            }
+            if !is_source(db, StmtId(*label), sigma, target.symbols()) {
+                into.push(next)?;
+            }
+        }
+        Ok(())
     }
 
     /// The id of the statement that the step names; `None` where it is unknown.

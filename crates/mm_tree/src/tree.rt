@@ -4,13 +4,14 @@ ghost use Rattle.std.specs.Prelude.{◌≡◌, ◌+◌, ◌<◌, ◌≤◌, ℕ,
 ghost use Rattle.std.specs.Option.{option_map};
 ghost use Rattle.mm_scope.specs.Contents.{labels_of};
 ghost use Rattle.mm_subst.specs.Statements.{statement_of};
-ghost use Rattle.mm_subst.specs.Substitutions.{applied};
+ghost use Rattle.mm_subst.specs.Substitutions.{Pairs, applied};
 ghost use Rattle.mm_subst.specs.declared.symbol.WSym.{WSym};
 ghost use Rattle.mm_plain.specs.Premises.{premises_of};
 ghost use Rattle.mm_plain.specs.Shape.{size_of, height_of, unknown, step_at, depth_at, target_of};
 ghost use Rattle.mm_plain.specs.Sources.{label_of};
+ghost use Rattle.mm_plain.specs.Numbers.{labels_in, unknowns_among, last_unknown_of, pending_in, HasOwnLabels};
 ghost use Rattle.mm_plain.specs.Valid.{Fits, IsString, IsValid, first_setting, placed_in, setting_of};
-ghost use Rattle.mm_tree.specs.Placed.{IsPlaced};
+ghost use Rattle.mm_tree.specs.Placed.{HasRoom, IsPlaced};
 
 use crate::fault::GraftFault;
 use crate::node::Node;
@@ -107,6 +108,60 @@ impl Tree {
         self.root.at(u64::from(step)).target().copy(alloc)
     }
 
+    /// What each step names, in order; `None` where the step is unknown.
+    pub fn labels(&self, alloc: Global) -> Result<Vec<Option<u32>>, AllocError>
+        ensures { IfOk result (λ v. v.items ≡ labels_in self.now.proof.plain) }
+    {
+        let mut labels = Vec::new(alloc);
+        self.root.labels(&mut labels)?;
+        Ok(labels)
+    }
+
+    /// How many steps are unknown.
+    pub fn unknown_steps(&self) -> u32
+        ensures { result ≡ unknowns_among (labels_in self.now.proof.plain) }
+    {
+        self.root.unknowns() as u32
+    }
+
+    /// The number of the last unknown step; `None` where no step is unknown.
+    pub fn last_unknown(&self) -> Option<u32>
+        ensures { result ≡ last_unknown_of (labels_in self.now.proof.plain) }
+    {
+        self.root.last_unknown(1, None)
+    }
+
+    /// The numbers of the pending steps, in order: those that are known, and whose string is not what their statement
+    /// says under their substitution.
+    pub fn pending_steps(&self, alloc: Global, db: &Database) -> Result<Vec<u32>, AllocError>
+        requires { HasOwnLabels db.now self.now.proof.plain }
+        ensures { IfOk result (λ v. v.items ≡ pending_in db.now self.now.proof.plain) }
+    {
+        let mut pending = Vec::new(alloc);
+        self.root.pending(db, 1, &mut pending)?;
+        Ok(pending)
+    }
+
+    /// Whether an unknown step may be made known over an unknown step for each mandatory hypothesis of a statement: whether
+    /// the tree does not get too large by it.
+    pub fn room(&self, db: &Database, step: u32, id: StmtId) -> Result<(), GraftFault>
+        requires exists { (1 ≤ step) × (step ≤ size_of self.now.proof.plain) }
+        requires unknown { label_of (step_at self.now.proof.plain step) ≡ None }
+        requires own { id.0 < length (labels_of db.now) }
+        // The substitution makes no difference.
+        ensures { (sigma : Pairs) → HasRoom result (placed_in db.now self.now.proof step id.0 sigma) }
+    {
+        let step = u64::from(step);
+        let premises = premises(db, id);
+        if premises.len() as u64 > MOST_STEPS - self.root.size() {
+            return Err(GraftFault::TooManySteps);
+        }
+        if self.root.depth(step) + levels_over(premises) > MOST_LEVELS {
+            return Err(GraftFault::TooDeep);
+        }
+        Ok(())
+    }
+
     /// Makes an unknown step known, over an unknown step for each mandatory hypothesis of the statement that it names.
     /// Where that is refused the tree is as before.
     pub fn place<L: Ledger>(
@@ -127,14 +182,8 @@ impl Tree {
         // A proof that is valid for a theorem stays valid, where the statement and the values fit.
         ensures valid { OnOk result ((at : ℕ) (goal : List WSym) → IsValid db.now at goal self.old.proof → Fits (setting_of db.now at self.old.proof) id.0 sigma.now → IsValid db.now at goal self.new.proof) }
     {
+        self.room(db, step, id)?;
         let step = u64::from(step);
-        let premises = premises(db, id);
-        if premises.len() as u64 > MOST_STEPS - self.root.size() {
-            return Err(GraftFault::TooManySteps);
-        }
-        if self.root.depth(step) + levels_over(premises) > MOST_LEVELS {
-            return Err(GraftFault::TooDeep);
-        }
         let node = known_over(alloc, db, self.root.at(step).target(), id, sigma, steps)?;
         self.root.put(step, node);
         Ok(())

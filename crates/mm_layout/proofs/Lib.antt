@@ -1,0 +1,5 @@
+pub mod Growing
+pub mod Parted
+pub mod Returned
+pub mod Clean
+pub mod Grouped

@@ -1,0 +1,4 @@
+pub mod Normal
+pub mod Lines
+pub mod Laid
+pub mod Words

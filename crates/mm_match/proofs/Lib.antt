@@ -1,0 +1,12 @@
+pub mod Walks
+pub mod Once
+pub mod Parts
+pub mod Endings
+pub mod Making
+pub mod Solving
+pub mod Branching
+pub mod Tabling
+pub mod Walking
+pub mod Pairing
+pub mod Settling
+pub mod Answering

@@ -1,0 +1,17 @@
+//! Matches of statements with strings.
+#![tactic(auto)]
+
+mod ends;
+mod found;
+mod items;
+mod keys;
+mod matched;
+mod open;
+mod row;
+mod search;
+mod table;
+#[cfg(test)]
+mod tests;
+mod values;
+
+pub use matched::{Matched, matching};

@@ -1,0 +1,6 @@
+pub mod Agreeing
+pub mod Moving
+pub mod Texts
+mod Room
+mod Places
+pub mod Saves

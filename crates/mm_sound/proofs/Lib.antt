@@ -1,0 +1,10 @@
+mod Strings
+mod Pairs
+mod Popped
+mod Assertion
+pub mod Runs
+pub mod Spelled
+pub mod Accepted
+pub mod NoWork
+pub mod Incomplete
+pub mod WithoutPairs

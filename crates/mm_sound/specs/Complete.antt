@@ -1,0 +1,40 @@
+-- Complete proofs, and the steps that they spell.
+use Rattle.std.specs.Prelude.{◌≡◌, ℕ, Bool, true, false, List, map, Option, None, Some, is_some, is_none, if◌then◌else◌}
+use Rattle.std.specs.List.{list_any}
+use Rattle.mm_scope.specs.Contents.{stated_at}
+use Rattle.mm_stated.specs.Stated.{is_hypothesis}
+use Rattle.mm_plain.specs.declared.plain.Plain.{Plain}
+use Rattle.mm_plain.specs.Shape.{Each, steps_of}
+use Rattle.mm_plain.specs.Sources.{label_of, is_pending}
+use Rattle.mm_stack.specs.declared.step.Step.{Step}
+use Rattle.mm_stack.specs.declared.step.Step.TheVariants.{Hyp, Apply, Unknown}
+
+-- a step is known, and its target is its source
+pub record IsDone (bytes : List ℕ) (x : Plain) : Type 0 where
+  pub known : is_some (label_of x) ≡ true
+  pub settled : is_pending bytes x ≡ false
+
+-- each step is known, and none is pending
+abbrev pub IsComplete : List ℕ → Plain → Type 0
+IsComplete bytes x = Each (IsDone bytes) (steps_of x)
+
+-- no step is pending
+abbrev pub IsSettled : List ℕ → Plain → Type 0
+IsSettled bytes x = Each (λ y. is_pending bytes y ≡ false) (steps_of x)
+
+-- the ids of the statements that the steps name, in postorder; none of an unknown step
+abbrev pub labels_in : Plain → List (Option ℕ)
+labels_in x = map label_of (steps_of x)
+
+-- whether a step is unknown
+abbrev pub has_unknown : Plain → Bool
+has_unknown x = list_any (λ o. is_none o) (labels_in x)
+
+-- the step of the machine for a step with this label; `?` for an unknown step
+abbrev pub step_for : List ℕ → Option ℕ → Step
+step_for bytes None = Unknown
+step_for bytes (Some l) = if is_hypothesis (stated_at bytes l).kind then Hyp (record { 0 = l }) else Apply (record { 0 = l })
+
+-- the steps that a proof spells
+abbrev pub spelled : List ℕ → Plain → List Step
+spelled bytes x = map (step_for bytes) (labels_in x)

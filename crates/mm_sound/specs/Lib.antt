@@ -1,0 +1,5 @@
+pub mod Numbers
+pub mod Complete
+pub mod Apart
+pub mod Proves
+pub mod Written

@@ -1,0 +1,72 @@
+//! What holds of valid and complete proofs.
+
+ghost use Rattle.std.specs.Prelude.{◌≡◌, ◌<◌, ℕ, true, false, List, [], ◌∷◌, Ok, Err, Result, length};
+ghost use Rattle.mm_scope.specs.Contents.{is_read, labels_of, stated_at, distinct_at};
+ghost use Rattle.mm_stated.specs.declared.statement.Kind.TheVariants.{Theorem};
+ghost use Rattle.mm_subst.specs.Statements.{statement_of};
+ghost use Rattle.mm_subst.specs.Symbols.{has_work};
+ghost use Rattle.mm_subst.specs.declared.symbol.WSym.{WSym};
+ghost use Rattle.mm_plain.specs.Shape.{Each, Proof, steps_of, target_of};
+ghost use Rattle.mm_plain.specs.Valid.{IsValid};
+ghost use Rattle.mm_stack.specs.Running.{run};
+ghost use Rattle.mm_stack.specs.Decoding.{decoded, proof_of};
+ghost use Rattle.mm_stack.specs.Accepting.{Accepts, verdict_by, verdict_of};
+ghost use Rattle.mm_stack.specs.declared.outcome.ProofFault.{ProofFault};
+ghost use Rattle.mm_stack.specs.declared.outcome.Verdict.TheVariants.{Accepted, Incomplete};
+ghost use Rattle.mm_stack.specs.declared.step.Step.{Step};
+ghost use Rattle.mm_forms.specs.Labels.{label_at};
+ghost use Rattle.mm_sound.specs.Apart.{IsApart};
+ghost use Rattle.mm_sound.specs.Complete.{IsComplete, IsSettled, has_unknown, spelled};
+ghost use Rattle.mm_sound.specs.Numbers.{numbers};
+ghost use Rattle.mm_sound.specs.Proves.{Proves};
+ghost use Rattle.mm_sound.specs.Written.{texts_in, written};
+
+/// The machine runs the steps of a valid and complete proof without a fault, and its stack is then the statement that is
+/// proved, where each step keeps the pairs of variables that must differ (Metamath book, section 4.1.4). So it is with any
+/// goal.
+pub fn complete_proofs_run(bytes: &[u8])
+    ensures of_theorem { (at : ℕ) (p : Proof) → Proves bytes.now at p → run bytes.now (distinct_at bytes.now at) (spelled bytes.now p.plain) ≡ Ok ((stated_at bytes.now at).symbols ∷ []) }
+    ensures of_goal { (at : ℕ) (goal : List WSym) (groups : List (List ℕ)) (p : Proof) → IsValid bytes.now at goal p → IsComplete bytes.now p.plain → IsApart bytes.now groups p.plain → run bytes.now groups (spelled bytes.now p.plain) ≡ Ok (numbers goal ∷ []) }
+{
+    let _ = bytes;
+}
+
+/// So where a theorem's text spells these steps, by whatever decoding, the theorem is accepted.
+pub fn complete_proofs_are_accepted(bytes: &[u8])
+    ensures by_any { (at : ℕ) (p : Proof) (read : Result (List Step) ProofFault) → Proves bytes.now at p → read ≡ Ok (spelled bytes.now p.plain) → verdict_by bytes.now at read ≡ Accepted }
+    ensures by_text { (at : ℕ) (p : Proof) → Proves bytes.now at p → decoded bytes.now at ≡ Ok (spelled bytes.now p.plain) → verdict_of bytes.now at ≡ Accepted }
+{
+    let _ = bytes;
+}
+
+/// What is written for a valid proof, complete or not, spells its steps: a label for each step that is known, and `?` for
+/// each that is not, in postorder.
+pub fn written_proofs_spell_their_steps(bytes: &[u8])
+    ensures { (at : ℕ) (goal : List WSym) (p : Proof) → at < length (labels_of bytes.now) → IsValid bytes.now at goal p → texts_in (proof_of bytes.now at) ≡ written bytes.now p.plain → decoded bytes.now at ≡ Ok (spelled bytes.now p.plain) }
+{
+    let _ = bytes;
+}
+
+/// A database says that a theorem holds, where the text of the theorem's proof is what is written for a valid and complete
+/// proof of it, which keeps the pairs of variables that must differ.
+pub fn written_proofs_are_accepted(bytes: &[u8])
+    ensures { (at : ℕ) (p : Proof) → is_read bytes.now ≡ true → at < length (labels_of bytes.now) → (stated_at bytes.now at).kind ≡ Theorem → Proves bytes.now at p → texts_in (proof_of bytes.now at) ≡ written bytes.now p.plain → Accepts bytes.now (label_at bytes.now at) }
+{
+    let _ = bytes;
+}
+
+/// No step of a valid and complete proof has a work variable.
+pub fn complete_proofs_have_no_work_variables(bytes: &[u8])
+    ensures { (at : ℕ) (goal : List WSym) (p : Proof) → IsValid bytes.now at goal p → IsComplete bytes.now p.plain → Each (λ x. has_work (target_of x) ≡ false) (steps_of p.plain) }
+{
+    let _ = bytes;
+}
+
+/// A valid proof in which no step is pending, and some step is unknown, is incomplete for the machine: it runs without a fault
+/// up to the first unknown step. So is the theorem, where its text is what is written for this proof.
+pub fn unknown_steps_leave_a_proof_incomplete(bytes: &[u8])
+    ensures of_run { (at : ℕ) (goal : List WSym) (groups : List (List ℕ)) (p : Proof) → IsValid bytes.now at goal p → IsSettled bytes.now p.plain → IsApart bytes.now groups p.plain → has_unknown p.plain ≡ true → run bytes.now groups (spelled bytes.now p.plain) ≡ Err Incomplete }
+    ensures of_text { (at : ℕ) (p : Proof) → at < length (labels_of bytes.now) → IsValid bytes.now at (statement_of bytes.now at) p → IsSettled bytes.now p.plain → IsApart bytes.now (distinct_at bytes.now at) p.plain → has_unknown p.plain ≡ true → texts_in (proof_of bytes.now at) ≡ written bytes.now p.plain → verdict_of bytes.now at ≡ Incomplete }
+{
+    let _ = bytes;
+}

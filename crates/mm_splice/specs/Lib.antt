@@ -1,0 +1,5 @@
+pub mod Moved
+pub mod Splicing
+pub mod Keeping
+pub mod Answered
+pub mod Judging

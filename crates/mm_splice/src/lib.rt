@@ -1,0 +1,17 @@
+//! Putting another text in place of a theorem's proof.
+//!
+//! A database is a list of bytes. Where the bytes between the `$=` and the `$.` of one theorem are replaced by a text of
+//! labels and white space, the database is still read, and says the same of every other statement.
+#![tactic(auto)]
+
+mod fault;
+mod laws;
+mod replace;
+#[cfg(test)]
+mod tests;
+mod text;
+
+pub use fault::SpliceFault;
+pub use laws::{splicing_keeps, splicing_keeps_verdicts};
+pub use replace::splice;
+pub use text::is_proof_text;

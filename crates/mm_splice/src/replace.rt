@@ -1,0 +1,88 @@
+//! Putting another text in place of a theorem's proof.
+
+ghost use Rattle.std.specs.Prelude.{◌≡◌, ◌≤◌, ◌<◌, true, IfOk, length};
+ghost use Rattle.mm_scope.specs.Contents.{is_read, labels_of, stated_at};
+ghost use Rattle.mm_stated.specs.declared.statement.Kind.TheVariants.{Theorem};
+ghost use Rattle.mm_splice.specs.Answered.{AnswersSplice};
+ghost use Rattle.mm_splice.specs.Splicing.{put_between, spliced, is_proof_text};
+
+use crate::fault::SpliceFault;
+use mm_scope::{Database, ReadFault, StmtId};
+use mm_tokens::Span;
+use std::alloc::{AllocError, Global};
+
+/// The longest database, in bytes.
+const MOST_BYTES: u64 = 134_217_728;
+
+/// The place of a theorem's proof.
+fn place(db: &Database, id: StmtId) -> Span
+    requires own { id.0 < length (labels_of db.now) }
+    requires theorem { (stated_at db.now id.0).kind ≡ Theorem }
+    ensures from { result.start ≡ (stated_at db.now id.0).from }
+    ensures to { result.end ≡ (stated_at db.now id.0).to }
+    ensures ordered { result.start ≤ result.end }
+    ensures within { result.end ≤ length db.now }
+{
+    match db.proof_span(id) {
+        Some(span) => span,
+        None => unreachable!(),
+    }
+}
+
+/// The bytes with a text in place of those between two places.
+fn put_between(
+    alloc: Global,
+    bytes: &[u8],
+    from: usize,
+    to: usize,
+    text: &[u8],
+) -> Result<Vec<u8>, AllocError>
+    requires ordered { from ≤ to }
+    requires within { to ≤ length bytes.now }
+    ensures { IfOk result (λ v. v.items ≡ put_between bytes.now from to text.now) }
+{
+    let mut joined = Vec::with_capacity(alloc, bytes.len() - (to - from) + text.len())?;
+    joined.extend_from_slice(&bytes[..from])?;
+    joined.extend_from_slice(text)?;
+    joined.extend_from_slice(&bytes[to..])?;
+    Ok(joined)
+}
+
+/// Want of memory: the one reason why bytes that can be read are not read.
+fn want_of_memory(fault: ReadFault) -> SpliceFault
+    requires { fault ≡ ReadFault.Memory }
+    ensures { result ≡ SpliceFault.Memory }
+{
+    match fault {
+        ReadFault::Memory => SpliceFault::Memory,
+        _ => unreachable!(),
+    }
+}
+
+/// The database with a text in place of the proof of a theorem. All of it is read anew, in the time that reading takes.
+///
+/// # Errors
+/// `TooLong` exactly where it would have more than 134,217,728 bytes, and want of memory.
+pub fn splice(
+    alloc: Global,
+    db: &Database,
+    id: StmtId,
+    text: &[u8],
+) -> Result<Database, SpliceFault>
+    requires own { id.0 < length (labels_of db.now) }
+    requires theorem { (stated_at db.now id.0).kind ≡ Theorem }
+    requires text { is_proof_text text.now ≡ true }
+    ensures { AnswersSplice db.now id.0 text.now result }
+{
+    let old = db.bytes();
+    let span = place(db, id);
+    let kept = old.len() as u64 - (span.end - span.start);
+    if kept + text.len() as u64 > MOST_BYTES {
+        return Err(SpliceFault::TooLong);
+    }
+    let bytes = put_between(alloc, old, span.start as usize, span.end as usize, text)?;
+    match Database::read(alloc, bytes) {
+        Ok(database) => Ok(database),
+        Err((_, fault)) => Err(want_of_memory(fault)),
+    }
+}
