@@ -1,8 +1,6 @@
 #!/usr/bin/env bash
 # Times READ of mmpa beside metamath-exe and a plain Rust program, where these and the databases are there.
-# Usage: bench/read.sh [DATABASE ..]   over the program that `rt run` or `rt ci` has built.
-# MEASURE names the measuring script. It quotes the file's name, and `mmpa` reads no quotes yet: so it is given a
-# wrapper that takes them off.
+# Usage: bench/read.sh [DATABASE ..]   over the program that `rt run` or `rt ci` has built. MEASURE names the measuring script.
 set -u
 cd "$(dirname "$0")/.." || exit 1
 measure=${MEASURE:-../shared/bench/measure.py}
@@ -17,9 +15,4 @@ if ! command -v python3 >/dev/null || ! command -v metamath >/dev/null; then
   echo "bench/read.sh: skipped, python3 or metamath-exe is missing"
   exit 0
 fi
-folder=$(mktemp -d)
-trap 'rm -rf "$folder"' EXIT
-# shellcheck disable=SC2016 # the wrapper's own words
-printf '#!/usr/bin/env bash\nexec %q "${@//\\'"'"'/}"\n' "$program" > "$folder/mmpa"
-chmod +x "$folder/mmpa"
-python3 "$measure" "$folder/mmpa" "$@"
+python3 "$measure" "$program" "$@"

@@ -7,3 +7,4 @@ pub mod Spelled
 pub mod Taking
 pub mod Given
 pub mod Meanings
+pub mod Heard

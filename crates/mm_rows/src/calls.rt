@@ -4,7 +4,9 @@ use crate::databases::DEMO0;
 use mm_scope::{
     Database, first_bytes_decide, labels_differ, symbols_are_declared, white_space_folds,
 };
-use mm_session::{Word, accepted_is_proved, kept_is_enough, read_is_whole};
+use mm_session::{
+    Word, accepted_is_proved, kept_is_enough, proofs_in_hand_are_valid, read_is_whole,
+};
 use mm_stack::assertions_substitute;
 use mm_tokens::{bad_byte, is_graphic, is_white, pieces_are_parts};
 use std::alloc::Global;
@@ -45,4 +47,5 @@ fn laws_do_nothing() {
     kept_is_enough();
     accepted_is_proved();
     read_is_whole();
+    proofs_in_hand_are_valid();
 }

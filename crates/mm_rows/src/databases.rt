@@ -91,3 +91,32 @@ left $p |- ( Q -> Q ) $= wq wq $.
 wrong $p |- ( Q -> Q ) $= wp ax $.
 long $p |- ( Q -> Q ) $= wq ten ten ten ten ten ax $.
 ";
+
+/// Strings of two variables.
+pub const WORDS: &[u8] = b"\
+$c |- str a b c $.
+$v x y $.
+sx $f str x $.
+sy $f str y $.
+sa $a str a $.
+sb $a str b $.
+sc $a str c $.
+sxy $a str x y $.
+cat $a |- x y $.
+abc $p |- a b c $= ? $.
+";
+
+/// The same, where the proof that is still open was saved.
+pub const WORDS_SAVED: &[u8] = b"\
+$c |- str a b c $.
+$v x y $.
+sx $f str x $.
+sy $f str y $.
+sa $a str a $.
+sb $a str b $.
+sc $a str c $.
+sxy $a str x y $.
+cat $a |- x y $.
+abc $p |- a b c $=
+      ? $.
+";

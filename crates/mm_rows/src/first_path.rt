@@ -59,13 +59,12 @@ fn each_refusal_has_its_text(rt: HostRuntime) -> Result<(), Fail> {
          VERIFY PROOF two\n\
          VERIFY PROOF open\n\
          VERIFY PROOF *\n\
-         EXIT\n\
-         verify proof right",
+         v p right",
         &mut files,
         &mut screen,
     )?;
     assert_eq!(rt; end.status, 1);
-    assert_eq!(rt; end.lines, 13);
+    assert_eq!(rt; end.lines, 12);
     assert_eq!(rt;
         screen.held(),
         b"\
@@ -94,9 +93,7 @@ open: incomplete
 Checked 1: accepted 0, incomplete 1, faulty 0.
 MM> VERIFY PROOF *
 ?C60: not built yet
-MM> EXIT
-?C60: not built yet
-MM> verify proof right
+MM> v p right
 Checked 1: accepted 1, incomplete 0, faulty 0.
 MM> \n"
             .as_slice()

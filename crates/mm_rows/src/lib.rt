@@ -9,4 +9,6 @@ mod faults;
 #[cfg(test)]
 mod first_path;
 #[cfg(test)]
+mod proving;
+#[cfg(test)]
 mod session;

@@ -1,21 +1,22 @@
 -- What the screen holds at each end of a session.
-use Rattle.std.proofs.Common.{◌≡◌, ◌+◌, ◌<◌, ◌≤◌, ℕ, zero, suc, Bool, true, false, List, [], ◌∷◌, ◌++◌, length, refl, sym, ◌∙◌, ap, subst, arith, slice_index_or, append_assoc, nat_lt, Result, Ok, Err, OnOk, OnErr, is_err}
+use Rattle.std.proofs.Common.{◌≡◌, ◌<◌, ◌≤◌, ◌==◌, ◌||◌, ℕ, zero, suc, Bool, true, false, List, [], ◌∷◌, ◌++◌, length, refl, sym, ◌∙◌, ap, subst, arith, slice_index_or, append_assoc, nat_lt, Result, Ok, Err, OnOk, OnErr, is_err, Contains, lit<, if◌then◌else◌}
 use Rattle.std.proofs.lemmas.Bool.{lt-ltb}
 use Rattle.std.proofs.lemmas.Bool.Decides.{nat_tests}
 use Rattle.mm_base.specs.declared.files.Files.{Ghosts as FilesOf}
 use Rattle.mm_base.specs.declared.sink.Sink.{Ghosts as SinkOf}
 use Rattle.mm_base.specs.Sink.{Gains, GainsPart, StartsWith}
 use Rattle.mm_base.proofs.SinkLemmas.{gains_none, starts_nil, starts_append, starts_more, starts_behind, gains_then, gains_part, part_of_more}
-use Rattle.mm_session.specs.declared.state.State.{State}
-use Rattle.mm_session.specs.declared.reply.Reply.{Reply}
+use Rattle.mm_effects.specs.declared.state.State.{State}
+use Rattle.mm_effects.specs.declared.reply.Reply.{Reply}
+use Rattle.mm_effects.specs.Effect.{text_of}
 use Rattle.mm_session.specs.declared.run.Run.{Run}
 use Rattle.mm_session.specs.declared.session.SessionEnd.{SessionEnd}
-use Rattle.mm_session.specs.Effect.{text_of}
+use Rattle.mm_session.specs.Advance.{IsLine, RunsOn}
 use Rattle.mm_session.specs.Calls.{Counted}
 use Rattle.mm_session.specs.Session.{Script, Machine, Maps, maps_of, session, fresh, prompt, echo}
 use Rattle.mm_session.specs.Course.{Rise, Follows, script_of}
-use Rattle.mm_session.specs.Advance.{RunsOn}
-use Rattle.mm_session.specs.Headline.{IsSession, Reached, EndsWhole, EndsCut, GivesUp, script_by, starved_by, faulted_by, before_reply, next_text, end_status}
+use Rattle.mm_session.specs.Headline.{Runs, Reached, EndsWhole, EndsAsking, EndsCut, GivesUp, script_by, with_last, starved_by, faulted_by, before_reply, next_text, last_text, end_status}
+use Rattle.mm_session.specs.Turns.{ended_run, Prompted, HasNext, Finished, Unwritten, Written, RunsTo}
 
 pub err_gives : {T E : Type 0} {P : Type 0} (r : Result T E) (b : Bool) → b ≡ true → b ≡ is_err r → OnErr r P → P
 err_gives (Ok x) b t e p = let no : false ≡ true = sym e ∙ t in cc
@@ -24,9 +25,6 @@ err_gives (Err x) b t e p = p
 pub ok_gives : {T E : Type 0} {P : Type 0} (r : Result T E) (b : Bool) → b ≡ false → b ≡ is_err r → OnOk r P → P
 ok_gives (Ok x) b f e p = p
 ok_gives (Err x) b f e p = let no : true ≡ false = sym e ∙ f in cc
-
-abbrev pub ended_run : ℕ → Run → SessionEnd
-ended_run status run = record { status = status; lines = run.lines; starved = run.starved; faulted = run.faulted }
 
 starts_trans : (long middle front : List ℕ) → StartsWith long middle → StartsWith middle front → StartsWith long front
 starts_trans long middle front s r = (r.0 ++ s.0, sym (append_assoc front r.0 s.0) ∙ (ap (λ (t : List ℕ). t ++ s.0) r.1 ∙ s.1))
@@ -49,29 +47,116 @@ before_next s s' n lines state line one same is at =
 rise_none : (xs : List ℕ) → xs ≡ [] → Rise 0 0 xs
 rise_none xs e = subst (λ (ys : List ℕ). Rise 0 0 ys) (sym e) (omega arith)
 
-status_low : (b : Bool) (s : ℕ) → s ≡ end_status b → s < 2
-status_low true s e = omega (arith, e)
-status_low false s e = omega (arith, e)
-
 module _ {K : Type 0} (told : K → Bool) (held : K → List ℕ) where
-  part_least : (a b : K) (least least' text : List ℕ) → StartsWith least least' → GainsPart told held a b least text → GainsPart told held a b least' text
+  pub part_least : (a b : K) (least least' text : List ℕ) → StartsWith least least' → GainsPart told held a b least text → GainsPart told held a b least' text
   part_least a b least least' text s g = record {
     told = g.told;
     part = λ t. let p = g.part t in (p.0, p.1, starts_trans p.0 least least' p.2 s, p.3);
   }
 
+-- How a session has ended, on the screen.
+record Ending {K : Type 0} (sk : SinkOf K) (s : Script) (opened : K) (end : SessionEnd) (screen : K) : Type 0 where
+  which : Contains (0 ∷ 1 ∷ 3 ∷ 4 ∷ 5 ∷ 6 ∷ 7 ∷ []) end.status
+  whole : end.status < 2 → EndsWhole sk s opened end screen
+  asking : (end.status == 3 || end.status == 7) ≡ true → EndsAsking sk s opened end screen
+  cut : end.status ≡ 4 → EndsCut sk s opened end screen
+  given_up : (end.status == 5 || end.status == 6) ≡ true → GivesUp sk s opened end screen
+  starving : end.status ≡ 5 → 0 < end.lines → length end.starved.items ≡ 64
+  faulting : end.status ≡ 6 → length end.faulted.items ≡ 64
+
+module _ {K : Type 0} (sk : SinkOf K) (s : Script) (opened : K) (run : Run) (screen : K) where
+  ending_cut : EndsCut sk s opened (ended_run 4 run) screen → Ending sk s opened (ended_run 4 run) screen
+  ending_cut cut = record {
+    which = (3, lit< tt, refl);
+    whole = λ lt. absurd (omega (arith, lt));
+    asking = λ e. let no : false ≡ true = e in cc;
+    cut = λ e. cut;
+    given_up = λ e. let no : false ≡ true = e in cc;
+    starving = λ e. absurd (omega (arith, e));
+    faulting = λ e. absurd (omega (arith, e));
+  }
+
+  ending_failed : EndsAsking sk s opened (ended_run 3 run) screen → Ending sk s opened (ended_run 3 run) screen
+  ending_failed asks = record {
+    which = (2, lit< tt, refl);
+    whole = λ lt. absurd (omega (arith, lt));
+    asking = λ e. asks;
+    cut = λ e. absurd (omega (arith, e));
+    given_up = λ e. let no : false ≡ true = e in cc;
+    starving = λ e. absurd (omega (arith, e));
+    faulting = λ e. absurd (omega (arith, e));
+  }
+
+  ending_spent : EndsAsking sk s opened (ended_run 7 run) screen → Ending sk s opened (ended_run 7 run) screen
+  ending_spent asks = record {
+    which = (6, lit< tt, refl);
+    whole = λ lt. absurd (omega (arith, lt));
+    asking = λ e. asks;
+    cut = λ e. absurd (omega (arith, e));
+    given_up = λ e. let no : false ≡ true = e in cc;
+    starving = λ e. absurd (omega (arith, e));
+    faulting = λ e. absurd (omega (arith, e));
+  }
+
+  ending_starved : GivesUp sk s opened (ended_run 5 run) screen → (0 < run.lines → length run.starved.items ≡ 64) → Ending sk s opened (ended_run 5 run) screen
+  ending_starved given_up full = record {
+    which = (4, lit< tt, refl);
+    whole = λ lt. absurd (omega (arith, lt));
+    asking = λ e. let no : false ≡ true = e in cc;
+    cut = λ e. absurd (omega (arith, e));
+    given_up = λ e. given_up;
+    starving = λ e. full;
+    faulting = λ e. absurd (omega (arith, e));
+  }
+
+  ending_faulted : GivesUp sk s opened (ended_run 6 run) screen → length run.faulted.items ≡ 64 → Ending sk s opened (ended_run 6 run) screen
+  ending_faulted given_up full = record {
+    which = (5, lit< tt, refl);
+    whole = λ lt. absurd (omega (arith, lt));
+    asking = λ e. let no : false ≡ true = e in cc;
+    cut = λ e. absurd (omega (arith, e));
+    given_up = λ e. given_up;
+    starving = λ e. absurd (omega (arith, e));
+    faulting = λ e. full;
+  }
+
+  ending_whole : (refused : Bool) → EndsWhole sk s opened (ended_run (end_status refused) run) screen → Ending sk s opened (ended_run (end_status refused) run) screen
+  ending_whole true whole = record {
+    which = (1, lit< tt, refl);
+    whole = λ lt. whole;
+    asking = λ e. let no : false ≡ true = e in cc;
+    cut = λ e. absurd (omega (arith, e));
+    given_up = λ e. let no : false ≡ true = e in cc;
+    starving = λ e. absurd (omega (arith, e));
+    faulting = λ e. absurd (omega (arith, e));
+  }
+  ending_whole false whole = record {
+    which = (0, lit< tt, refl);
+    whole = λ lt. whole;
+    asking = λ e. let no : false ≡ true = e in cc;
+    cut = λ e. absurd (omega (arith, e));
+    given_up = λ e. let no : false ≡ true = e in cc;
+    starving = λ e. absurd (omega (arith, e));
+    faulting = λ e. absurd (omega (arith, e));
+  }
+
+with_last_more : (numbers : List ℕ) (n k : ℕ) → n ≡ suc k → with_last numbers n ≡ numbers ++ n ∷ []
+with_last_more numbers n k e = subst (λ (m : ℕ). with_last numbers m ≡ numbers ++ m ∷ []) (sym e) refl
+
 module _ {F K : Type 0} (fs : FilesOf F) (sk : SinkOf K) where
-  is_session : (commands : List (List ℕ)) (maps : Maps) (begun : F) (opened : K) (end : SessionEnd) (state : State) (refused : Bool) (files : F) (screen : K) →
+  abbrev runs_end : (commands : List (List ℕ)) (maps : Maps) (begun : F) (opened : K) (end : SessionEnd) (state : State) (refused : Bool) (files : F) (screen : K) →
       Follows fs (script_by commands maps end) begun end.lines state refused files → Counted fs (script_by commands maps end) begun end.lines files →
-      (end.status < 2 → EndsWhole sk (script_by commands maps end) opened end screen) →
-      (end.status ≡ 4 → EndsCut sk (script_by commands maps end) opened end screen) →
-      (5 ≤ end.status → GivesUp sk (script_by commands maps end) opened end screen) → IsSession fs sk commands begun opened end files screen
-  is_session commands maps begun opened end state refused files screen follows counted whole cut given_up = record {
+      Ending sk (script_by commands maps end) opened end screen → Runs fs sk commands begun opened end files screen
+  runs_end commands maps begun opened end state refused files screen follows counted ending = record {
     maps = maps;
     told = follows.same;
-    whole = whole;
-    cut = cut;
-    given_up = given_up;
+    which = ending.which;
+    whole = ending.whole;
+    asking = ending.asking;
+    cut = ending.cut;
+    given_up = ending.given_up;
+    starving = ending.starving;
+    faulting = ending.faulting;
     put = follows.map;
     starved = follows.starved;
     faulted = follows.faulted;
@@ -82,174 +167,264 @@ module _ {F K : Type 0} (fs : FilesOf F) (sk : SinkOf K) where
     faults_exactly = counted.exactly;
   }
 
-  is_cut : (commands : List (List ℕ)) (maps : Maps) (begun : F) (opened : K) (run : Run) (state : State) (refused : Bool) (files : F) (screen : K) →
-      Follows fs (script_of commands maps run) begun run.lines state refused files → Counted fs (script_of commands maps run) begun run.lines files →
-      EndsCut sk (script_of commands maps run) opened (ended_run 4 run) screen → IsSession fs sk commands begun opened (ended_run 4 run) files screen
-  is_cut commands maps begun opened run state refused files screen follows counted cut =
-      is_session commands maps begun opened (ended_run 4 run) state refused files screen follows counted
-      (λ lt. absurd (omega (arith, lt))) (λ e. cut) (λ le. absurd (omega (arith, le)))
+  module _ (commands : List (List ℕ)) (begun : F) (opened : K) where
+    -- the screen fails after the transcript of some commands
+    cut_there : (run : Run) (files : F) (screen screen' : K) (next : List ℕ) → (r : Reached fs sk commands begun opened run files screen) →
+        GainsPart sk.tells sk.held screen screen' [] next → next ≡ next_text (script_of commands r.maps run) run.lines →
+        Runs fs sk commands begun opened (ended_run 4 run) files screen'
+    cut_there run files screen screen' next r part is =
+        let s = script_of commands r.maps run in
+        let text = (session s run.lines).text in
+        let front = before_reply s run.lines in
+        runs_end commands r.maps begun opened (ended_run 4 run) run.state run.refused files screen' r.follows r.counted
+        (ending_cut sk s opened run screen'
+        (subst (λ (x : List ℕ). GainsPart sk.tells sk.held opened screen' front (text ++ x)) is
+        (part_least sk.tells sk.held opened screen' (text ++ []) front (text ++ next) (starts_more text [] front (before_reply_begins s run.lines))
+        (gains_part sk.tells sk.held opened screen screen' text [] next r.gained part))))
 
-  -- the screen fails before the next command, or at the end
-  pub cut_before : (commands : List (List ℕ)) (begun : F) (opened : K) (n : ℕ) (run : Run) (files : F) (screen screen' : K) (next : List ℕ) →
-      (r : Reached fs sk commands begun opened n run files screen) →
-      GainsPart sk.tells sk.held screen screen' [] next →
-      next ≡ next_text (script_of commands r.maps run) run.lines →
-      IsSession fs sk commands begun opened (ended_run 4 run) files screen'
-  cut_before commands begun opened n run files screen screen' next r part is =
-      let s = script_of commands r.maps run in
-      let text = (session s run.lines).text in
-      let front = before_reply s run.lines in
-      is_cut commands r.maps begun opened run run.state run.refused files screen' r.follows r.counted
-      (subst (λ (x : List ℕ). GainsPart sk.tells sk.held opened screen' front (text ++ x)) is
-      (part_least sk.tells sk.held opened screen' (text ++ []) front (text ++ next) (starts_more text [] front (before_reply_begins s run.lines))
-      (gains_part sk.tells sk.held opened screen screen' text [] next r.gained part)))
+    next_behind : (run : Run) (files : F) (screen : K) (tail : List ℕ) (r : Reached fs sk commands begun opened run files screen) →
+        tail ≡ (if nat_lt run.lines (length commands) then echo (slice_index_or commands run.lines []) else 10 ∷ []) →
+        prompt run.state ++ tail ≡ next_text (script_of commands r.maps run) run.lines
+    next_behind run files screen tail r is =
+        ap (λ (t : State). prompt t ++ tail) r.follows.state_is
+        ∙ ap (λ (x : List ℕ). prompt (session (script_of commands r.maps run) run.lines).state ++ x) is
 
-  -- the screen fails after a command
-  pub cut_after : (commands : List (List ℕ)) (begun : F) (opened : K) (n : ℕ) (run new : Run) (files files' : F) (screen screen' screen'' : K) (line : List ℕ) (reply : Reply) →
-      (r : Reached fs sk commands begun opened n run files screen) →
-      Gains sk.tells sk.held screen screen' (prompt run.state ++ echo line) →
-      new.lines ≡ suc run.lines → slice_index_or commands run.lines [] ≡ line →
-      RunsOn fs commands r.maps begun run files line reply new.starved.items new.faulted.items new.state new.refused files' →
-      GainsPart sk.tells sk.held screen' screen'' [] (text_of reply) →
-      IsSession fs sk commands begun opened (ended_run 4 new) files' screen''
-  cut_after commands begun opened n run new files files' screen screen' screen'' line reply r shown lines at runs part =
-      let s = script_of commands r.maps run in
-      let s' = script_of commands runs.maps' new in
-      let goes = runs.goes in
-      let text = (session s run.lines).text in
-      let announced = prompt run.state ++ echo line in
-      let front = before_reply s' new.lines in
-      let is : front ≡ text ++ announced = before_next s s' run.lines new.lines run.state line lines goes.earlier r.follows.state_is at in
-      let all : GainsPart sk.tells sk.held opened screen'' ((text ++ announced) ++ []) ((text ++ announced) ++ text_of reply) =
-      gains_part sk.tells sk.held opened screen' screen'' (text ++ announced) [] (text_of reply) (gains_then sk.tells sk.held opened screen screen' text announced r.gained shown) part in
-      let least : GainsPart sk.tells sk.held opened screen'' front ((text ++ announced) ++ text_of reply) =
-      part_least sk.tells sk.held opened screen'' ((text ++ announced) ++ []) front ((text ++ announced) ++ text_of reply)
-      (subst (λ (x : List ℕ). StartsWith ((text ++ announced) ++ []) x) (sym is) (starts_append (text ++ announced) [])) all in
-      let whole : (text ++ announced) ++ text_of reply ≡ (session s' new.lines).text =
-      append_assoc text announced (text_of reply) ∙ (sym goes.text ∙ sym (ap (λ (k : ℕ). (session s' k).text) lines)) in
-      is_cut commands runs.maps' begun opened new new.state new.refused files' screen''
-      (subst (λ (k : ℕ). Follows fs s' begun k new.state new.refused files') (sym lines) goes.follows)
-      (subst (λ (k : ℕ). Counted fs s' begun k files') (sym lines) (goes.counted r.counted))
-      (part_of_more sk.tells sk.held opened screen'' front (session s' new.lines).text (next_text s' new.lines)
-      (subst (λ (x : List ℕ). GainsPart sk.tells sk.held opened screen'' front x) whole least))
+    -- at the prompt
+    pub cut_at_prompt : (run : Run) (files : F) (screen screen' : K) → Reached fs sk commands begun opened run files screen →
+        GainsPart sk.tells sk.held screen screen' [] (prompt run.state) → Runs fs sk commands begun opened (ended_run 4 run) files screen'
+    cut_at_prompt run files screen screen' r part =
+        let tail : List ℕ = if nat_lt run.lines (length commands) then echo (slice_index_or commands run.lines []) else 10 ∷ [] in
+        cut_there run files screen screen' (prompt run.state ++ tail) r (part_of_more sk.tells sk.held screen screen' [] (prompt run.state) tail part) (next_behind run files screen tail r refl)
 
-  -- a command is given up as the 65th of its kind
-  pub gives_up : (commands : List (List ℕ)) (begun : F) (opened : K) (n : ℕ) (run : Run) (end : SessionEnd) (state : State) (files files' : F) (screen screen' : K) (line : List ℕ) (reply : Reply) → 5 ≤ end.status →
-      (r : Reached fs sk commands begun opened n run files screen) →
-      Gains sk.tells sk.held screen screen' (prompt run.state ++ echo line) →
-      end.lines ≡ suc run.lines → slice_index_or commands run.lines [] ≡ line →
-      RunsOn fs commands r.maps begun run files line reply (starved_by end) (faulted_by end) state true files' →
-      IsSession fs sk commands begun opened end files' screen'
-  gives_up commands begun opened n run end state files files' screen screen' line reply high r shown lines at runs =
-      let s = script_of commands r.maps run in
-      let s' = script_by commands runs.maps' end in
-      let goes = runs.goes in
-      let text = (session s run.lines).text in
-      let announced = prompt run.state ++ echo line in
-      let is : before_reply s' end.lines ≡ text ++ announced = before_next s s' run.lines end.lines run.state line lines goes.earlier r.follows.state_is at in
-      is_session commands runs.maps' begun opened end state true files' screen'
-      (subst (λ (k : ℕ). Follows fs s' begun k state true files') (sym lines) goes.follows)
-      (subst (λ (k : ℕ). Counted fs s' begun k files') (sym lines) (goes.counted r.counted))
-      (λ lt. absurd (omega (arith, lt, high))) (λ e. absurd (omega (arith, e, high)))
-      (λ le. record {
-        some = omega (arith, lines);
-        transcript = subst (λ (x : List ℕ). Gains sk.tells sk.held opened screen' x) (sym is) (gains_then sk.tells sk.held opened screen screen' text announced r.gained shown);
-      })
+    part_behind : (run : Run) (before screen screen' : K) (next : List ℕ) → Gains sk.tells sk.held before screen (prompt run.state) → GainsPart sk.tells sk.held screen screen' [] next →
+        GainsPart sk.tells sk.held before screen' [] (prompt run.state ++ next)
+    part_behind run before screen screen' next prompted part =
+        part_least sk.tells sk.held before screen' (prompt run.state ++ []) [] (prompt run.state ++ next) (starts_nil (prompt run.state ++ []))
+        (gains_part sk.tells sk.held before screen screen' (prompt run.state) [] next prompted part)
 
-  -- a command is run, and its reply shown
-  pub reaches : (commands : List (List ℕ)) (begun : F) (opened : K) (n : ℕ) (run new : Run) (files files' : F) (screen screen' screen'' : K) (line : List ℕ) (reply : Reply) →
-      (r : Reached fs sk commands begun opened n run files screen) →
-      Gains sk.tells sk.held screen screen' (prompt run.state ++ echo line) →
-      new.lines ≡ suc run.lines →
-      RunsOn fs commands r.maps begun run files line reply new.starved.items new.faulted.items new.state new.refused files' →
-      Gains sk.tells sk.held screen' screen'' (text_of reply) →
-      sk.faults screen' ≡ sk.faults screen → sk.faults screen'' ≡ sk.faults screen' →
-      Reached fs sk commands begun opened (n + 1) new files' screen''
-  reaches commands begun opened n run new files files' screen screen' screen'' line reply r shown lines runs said one two =
-      let s = script_of commands r.maps run in
-      let s' = script_of commands runs.maps' new in
-      let text = (session s run.lines).text in
-      let announced = prompt run.state ++ echo line in
-      record {
-        maps = runs.maps';
-        lines = omega (arith, lines, r.lines);
-        follows = subst (λ (k : ℕ). Follows fs s' begun k new.state new.refused files') (sym lines) runs.goes.follows;
-        counted = subst (λ (k : ℕ). Counted fs s' begun k files') (sym lines) (runs.goes.counted r.counted);
-        gained = subst (λ (x : List ℕ). Gains sk.tells sk.held opened screen'' x) (sym (ap (λ (k : ℕ). (session s' k).text) lines ∙ runs.goes.text))
-            (gains_then sk.tells sk.held opened screen screen'' text (announced ++ text_of reply) r.gained
-            (gains_then sk.tells sk.held screen screen' screen'' announced (text_of reply) shown said));
-        count = two ∙ (one ∙ r.count);
-      }
+    -- at the end of the last prompt's line
+    pub cut_at_end : (run : Run) (files : F) (screen screen' : K) → Prompted fs sk commands begun opened run files screen → run.lines ≡ length commands →
+        GainsPart sk.tells sk.held screen screen' [] (10 ∷ []) → Runs fs sk commands begun opened (ended_run 4 run) files screen'
+    cut_at_end run files screen screen' p all part =
+        let no : nat_lt run.lines (length commands) ≡ false = grind (arith, nat_tests) in
+        cut_there run files p.before screen' (prompt run.state ++ 10 ∷ []) p.reached (part_behind run p.before screen screen' (10 ∷ []) p.prompted part)
+        (next_behind run files p.before (10 ∷ []) p.reached (rw no refl))
 
-  -- nothing has been run
-  pub nothing_run : (commands : List (List ℕ)) (begun : F) (opened : K) (run : Run) → run.state ≡ fresh → run.lines ≡ 0 → run.refused ≡ false → run.starved.items ≡ [] → run.faulted.items ≡ [] →
-      Reached fs sk commands begun opened 0 run begun opened
-  unfolding session
-  nothing_run commands begun opened run state lines refused starved faulted =
-      let maps = maps_of (fs.lookup begun) in
-      let s = script_of commands maps run in
-      record {
-        maps = maps;
-        lines = lines;
-        follows = subst (λ (k : ℕ). Follows fs s begun k run.state run.refused begun) (sym lines) (record {
-          told = λ t. t;
-          same = λ t. refl;
-          state_is = state;
-          map = λ t. refl;
-          refused_is = refused;
-          starved = rise_none run.starved.items starved;
-          faulted = rise_none run.faulted.items faulted;
-          apart = λ k h. rw faulted refl;
-          rose = rw faulted (omega arith);
-          held = λ e. refl;
-          causes = λ k lt. absurd (omega (arith, lt));
-        });
-        counted = subst (λ (k : ℕ). Counted fs s begun k begun) (sym lines) (record {
-          told = λ u. u;
-          same = λ u. refl;
-          calls = λ u none. omega arith;
-          exactly = λ u none k lt. absurd (omega (arith, lt));
-        });
-        gained = subst (λ (x : List ℕ). Gains sk.tells sk.held opened opened x) (sym (ap (λ (k : ℕ). (session s k).text) lines)) (gains_none sk.tells sk.held opened);
-        count = refl;
-      }
+    echo_is : (line whole : List ℕ) → IsLine line whole → echo line ≡ echo whole
+    echo_is line whole is = ap (λ (x : List ℕ). x ++ 10 ∷ []) is.shows
 
-  ends_as : (commands : List (List ℕ)) (begun : F) (opened : K) (n : ℕ) (run : Run) (files : F) (screen screen' : K) (refused : Bool) → refused ≡ run.refused → n ≡ length commands →
-      (r : Reached fs sk commands begun opened n run files screen) →
-      Gains sk.tells sk.held screen screen' (prompt run.state ++ 10 ∷ []) →
-      EndsWhole sk (script_of commands r.maps run) opened (ended_run (end_status refused) run) screen'
-  ends_as commands begun opened n run files screen screen' refused is all r shown =
-      let s = script_of commands r.maps run in record {
-        all = r.lines ∙ all;
-        status = ap end_status (is ∙ r.follows.refused_is);
-        transcript = subst (λ (t : State). Gains sk.tells sk.held opened screen' ((session s run.lines).text ++ (prompt t ++ 10 ∷ []))) r.follows.state_is
-            (gains_then sk.tells sk.held opened screen screen' (session s run.lines).text (prompt run.state ++ 10 ∷ []) r.gained shown);
-      }
+    -- at the echo of a command
+    pub cut_at_echo : (run : Run) (files : F) (screen screen' : K) (line whole : List ℕ) → Prompted fs sk commands begun opened run files screen → HasNext commands run line whole →
+        GainsPart sk.tells sk.held screen screen' [] (echo line) → Runs fs sk commands begun opened (ended_run 4 run) files screen'
+    cut_at_echo run files screen screen' line whole p h part =
+        let shown : GainsPart sk.tells sk.held screen screen' [] (echo whole) = subst (λ (x : List ℕ). GainsPart sk.tells sk.held screen screen' [] x) (echo_is line whole h.is_line) part in
+        cut_there run files p.before screen' (prompt run.state ++ echo whole) p.reached (part_behind run p.before screen screen' (echo whole) p.prompted shown)
+        (next_behind run files p.before (echo whole) p.reached (rw (lt-ltb run.lines (length commands) h.more, h.at) refl))
 
-  ends_with : (commands : List (List ℕ)) (begun : F) (opened : K) (n : ℕ) (run : Run) (files : F) (screen screen' : K) (refused : Bool) → refused ≡ run.refused → n ≡ length commands →
-      (r : Reached fs sk commands begun opened n run files screen) →
-      Gains sk.tells sk.held screen screen' (prompt run.state ++ 10 ∷ []) →
-      IsSession fs sk commands begun opened (ended_run (end_status refused) run) files screen'
-  ends_with commands begun opened n run files screen screen' true is all r shown =
-      is_session commands r.maps begun opened (ended_run 1 run) run.state run.refused files screen' r.follows r.counted
-      (λ lt. ends_as commands begun opened n run files screen screen' true is all r shown) (λ e. absurd (omega (arith, e))) (λ le. absurd (omega (arith, le)))
-  ends_with commands begun opened n run files screen screen' false is all r shown =
-      is_session commands r.maps begun opened (ended_run 0 run) run.state run.refused files screen' r.follows r.counted
-      (λ lt. ends_as commands begun opened n run files screen screen' false is all r shown) (λ e. absurd (omega (arith, e))) (λ le. absurd (omega (arith, le)))
+    -- the prompt and the echo were written
+    announced : (run : Run) (files : F) (screen screen' : K) (line whole : List ℕ) (p : Prompted fs sk commands begun opened run files screen) → HasNext commands run line whole →
+        Gains sk.tells sk.held screen screen' (echo line) → Gains sk.tells sk.held p.before screen' (prompt run.state ++ echo whole)
+    announced run files screen screen' line whole p h shown =
+        gains_then sk.tells sk.held p.before screen screen' (prompt run.state) (echo whole) p.prompted (subst (λ (x : List ℕ). Gains sk.tells sk.held screen screen' x) (echo_is line whole h.is_line) shown)
 
-  -- all commands were run, and the end was written
-  pub ends_whole : (commands : List (List ℕ)) (begun : F) (opened : K) (n : ℕ) (run : Run) (files : F) (screen screen' : K) (status : ℕ) → status ≡ end_status run.refused → n ≡ length commands →
-      (r : Reached fs sk commands begun opened n run files screen) →
-      Gains sk.tells sk.held screen screen' (prompt run.state ++ 10 ∷ []) →
-      IsSession fs sk commands begun opened (ended_run status run) files screen'
-  ends_whole commands begun opened n run files screen screen' status is all r shown =
-      subst (λ (k : ℕ). IsSession fs sk commands begun opened (ended_run k run) files screen') (sym is)
-      (ends_with commands begun opened n run files screen screen' run.refused refl all r shown)
+    -- at the text of a command
+    pub cut_at_text : (run new : Run) (files files' : F) (screen screen' screen'' : K) (line whole : List ℕ) (reply : Reply) →
+        (p : Prompted fs sk commands begun opened run files screen) → HasNext commands run line whole →
+        Gains sk.tells sk.held screen screen' (echo line) → new.lines ≡ suc run.lines →
+        RunsOn fs commands p.reached.maps begun run files whole reply new.starved.items new.faulted.items new.state new.refused files' →
+        GainsPart sk.tells sk.held screen' screen'' [] (text_of reply) → Runs fs sk commands begun opened (ended_run 4 new) files' screen''
+    cut_at_text run new files files' screen screen' screen'' line whole reply p h echoed lines runs part =
+        let r = p.reached in
+        let s = script_of commands r.maps run in
+        let s' = script_of commands runs.maps' new in
+        let goes = runs.goes in
+        let text = (session s run.lines).text in
+        let said = prompt run.state ++ echo whole in
+        let front = before_reply s' new.lines in
+        let is : front ≡ text ++ said = before_next s s' run.lines new.lines run.state whole lines goes.earlier r.follows.state_is h.at in
+        let all : GainsPart sk.tells sk.held opened screen'' ((text ++ said) ++ []) ((text ++ said) ++ text_of reply) =
+        gains_part sk.tells sk.held opened screen' screen'' (text ++ said) [] (text_of reply) (gains_then sk.tells sk.held opened p.before screen' text said r.gained (announced run files screen screen' line whole p h echoed)) part in
+        let least : GainsPart sk.tells sk.held opened screen'' front ((text ++ said) ++ text_of reply) =
+        part_least sk.tells sk.held opened screen'' ((text ++ said) ++ []) front ((text ++ said) ++ text_of reply)
+        (subst (λ (x : List ℕ). StartsWith ((text ++ said) ++ []) x) (sym is) (starts_append (text ++ said) [])) all in
+        let done : (text ++ said) ++ text_of reply ≡ (session s' new.lines).text =
+        append_assoc text said (text_of reply) ∙ (sym goes.text ∙ sym (ap (λ (k : ℕ). (session s' k).text) lines)) in
+        runs_end commands runs.maps' begun opened (ended_run 4 new) new.state new.refused files' screen''
+        (subst (λ (k : ℕ). Follows fs s' begun k new.state new.refused files') (sym lines) goes.follows)
+        (subst (λ (k : ℕ). Counted fs s' begun k files') (sym lines) (goes.counted r.counted))
+        (ending_cut sk s' opened new screen''
+        (part_of_more sk.tells sk.held opened screen'' front (session s' new.lines).text (next_text s' new.lines)
+        (subst (λ (x : List ℕ). GainsPart sk.tells sk.held opened screen'' front x) done least)))
 
-pub next_line : (commands : List (List ℕ)) (maps : Maps) (run : Run) (line : List ℕ) → run.lines < length commands → slice_index_or commands run.lines [] ≡ line → run.state ≡ (session (script_of commands maps run) run.lines).state →
-    prompt run.state ++ echo line ≡ next_text (script_of commands maps run) run.lines
-next_line commands maps run line lt at is = rw (lt-ltb run.lines (length commands) lt, at) refl
+    -- a command is given up as the 65th of its kind
+    gives_up : (run : Run) (end : SessionEnd) (state : State) (files files' : F) (screen screen' : K) (line whole : List ℕ) (reply : Reply) →
+        (p : Prompted fs sk commands begun opened run files screen) → HasNext commands run line whole →
+        Gains sk.tells sk.held screen screen' (echo line) → end.lines ≡ suc run.lines →
+        (runs : RunsOn fs commands p.reached.maps begun run files whole reply (starved_by end) (faulted_by end) state true files') →
+        (GivesUp sk (script_by commands runs.maps' end) opened end screen' → Ending sk (script_by commands runs.maps' end) opened end screen') →
+        Runs fs sk commands begun opened end files' screen'
+    gives_up run end state files files' screen screen' line whole reply p h echoed lines runs ending =
+        let r = p.reached in
+        let s = script_of commands r.maps run in
+        let s' = script_by commands runs.maps' end in
+        let goes = runs.goes in
+        let text = (session s run.lines).text in
+        let said = prompt run.state ++ echo whole in
+        let is : before_reply s' end.lines ≡ text ++ said = before_next s s' run.lines end.lines run.state whole lines goes.earlier r.follows.state_is h.at in
+        runs_end commands runs.maps' begun opened end state true files' screen'
+        (subst (λ (k : ℕ). Follows fs s' begun k state true files') (sym lines) goes.follows)
+        (subst (λ (k : ℕ). Counted fs s' begun k files') (sym lines) (goes.counted r.counted))
+        (ending (record {
+          transcript = subst (λ (x : List ℕ). Gains sk.tells sk.held opened screen' x) (sym is)
+              (gains_then sk.tells sk.held opened p.before screen' text said r.gained (announced run files screen screen' line whole p h echoed));
+        }))
 
-pub next_end : (commands : List (List ℕ)) (maps : Maps) (run : Run) → run.lines ≡ length commands →
-    prompt run.state ++ 10 ∷ [] ≡ next_text (script_of commands maps run) run.lines
-next_end commands maps run all = let no : nat_lt run.lines (length commands) ≡ false = grind (arith, nat_tests) in rw no refl
+    pub gives_up_starved : (run new : Run) (state : State) (files files' : F) (screen screen' : K) (line whole : List ℕ) (reply : Reply) →
+        (p : Prompted fs sk commands begun opened run files screen) → HasNext commands run line whole →
+        Gains sk.tells sk.held screen screen' (echo line) → new.lines ≡ suc run.lines →
+        RunsOn fs commands p.reached.maps begun run files whole reply (new.starved.items ++ new.lines ∷ []) new.faulted.items state true files' →
+        length new.starved.items ≡ 64 → Runs fs sk commands begun opened (ended_run 5 new) files' screen'
+    gives_up_starved run new state files files' screen screen' line whole reply p h echoed lines runs full =
+        let is = with_last_more new.starved.items new.lines run.lines lines in
+        let runs' : RunsOn fs commands p.reached.maps begun run files whole reply (starved_by (ended_run 5 new)) new.faulted.items state true files' =
+        subst (λ (xs : List ℕ). RunsOn fs commands p.reached.maps begun run files whole reply xs new.faulted.items state true files') (sym is) runs in
+        gives_up run (ended_run 5 new) state files files' screen screen' line whole reply p h echoed lines runs'
+        (λ g. ending_starved sk (script_by commands runs'.maps' (ended_run 5 new)) opened new screen' g (λ lt. full))
+
+    pub gives_up_faulted : (run new : Run) (state : State) (files files' : F) (screen screen' : K) (line whole : List ℕ) (reply : Reply) →
+        (p : Prompted fs sk commands begun opened run files screen) → HasNext commands run line whole →
+        Gains sk.tells sk.held screen screen' (echo line) → new.lines ≡ suc run.lines →
+        RunsOn fs commands p.reached.maps begun run files whole reply new.starved.items (new.faulted.items ++ new.lines ∷ []) state true files' →
+        length new.faulted.items ≡ 64 → Runs fs sk commands begun opened (ended_run 6 new) files' screen'
+    gives_up_faulted run new state files files' screen screen' line whole reply p h echoed lines runs full =
+        let is = with_last_more new.faulted.items new.lines run.lines lines in
+        let runs' : RunsOn fs commands p.reached.maps begun run files whole reply new.starved.items (faulted_by (ended_run 6 new)) state true files' =
+        subst (λ (xs : List ℕ). RunsOn fs commands p.reached.maps begun run files whole reply new.starved.items xs state true files') (sym is) runs in
+        gives_up run (ended_run 6 new) state files files' screen screen' line whole reply p h echoed lines runs'
+        (λ g. ending_faulted sk (script_by commands runs'.maps' (ended_run 6 new)) opened new screen' g full)
+
+    -- a command is run, and its reply shown
+    pub reaches : (run new : Run) (files files' : F) (screen screen' screen'' : K) (line whole : List ℕ) (reply : Reply) →
+        (p : Prompted fs sk commands begun opened run files screen) → HasNext commands run line whole →
+        Gains sk.tells sk.held screen screen' (echo line) → new.lines ≡ suc run.lines →
+        RunsOn fs commands p.reached.maps begun run files whole reply new.starved.items new.faulted.items new.state new.refused files' →
+        Gains sk.tells sk.held screen' screen'' (text_of reply) → Reached fs sk commands begun opened new files' screen''
+    reaches run new files files' screen screen' screen'' line whole reply p h echoed lines runs said =
+        let r = p.reached in
+        let s = script_of commands r.maps run in
+        let s' = script_of commands runs.maps' new in
+        let text = (session s run.lines).text in
+        let front = prompt run.state ++ echo whole in
+        record {
+          maps = runs.maps';
+          follows = subst (λ (k : ℕ). Follows fs s' begun k new.state new.refused files') (sym lines) runs.goes.follows;
+          counted = subst (λ (k : ℕ). Counted fs s' begun k files') (sym lines) (runs.goes.counted r.counted);
+          gained = subst (λ (x : List ℕ). Gains sk.tells sk.held opened screen'' x) (sym (ap (λ (k : ℕ). (session s' k).text) lines ∙ runs.goes.text))
+              (gains_then sk.tells sk.held opened p.before screen'' text (front ++ text_of reply) r.gained
+              (gains_then sk.tells sk.held p.before screen' screen'' front (text_of reply) (announced run files screen screen' line whole p h echoed) said));
+        }
+
+    -- nothing has been run
+    pub nothing_run : (run : Run) → run.state ≡ fresh → run.lines ≡ 0 → run.refused ≡ false → run.starved.items ≡ [] → run.faulted.items ≡ [] →
+        Reached fs sk commands begun opened run begun opened
+    unfolding session
+    nothing_run run state lines refused starved faulted =
+        let maps = maps_of (fs.lookup begun) in
+        let s = script_of commands maps run in
+        record {
+          maps = maps;
+          follows = subst (λ (k : ℕ). Follows fs s begun k run.state run.refused begun) (sym lines) (record {
+            told = λ t. t;
+            same = λ t. refl;
+            state_is = state;
+            map = λ t. refl;
+            refused_is = refused;
+            starved = rise_none run.starved.items starved;
+            faulted = rise_none run.faulted.items faulted;
+            apart = λ k h. rw faulted refl;
+            rose = rw faulted (omega arith);
+            held = λ e. refl;
+            causes = λ k lt. absurd (omega (arith, lt));
+          });
+          counted = subst (λ (k : ℕ). Counted fs s begun k begun) (sym lines) (record {
+            told = λ u. u;
+            same = λ u. refl;
+            calls = λ u none. omega arith;
+            exactly = λ u none k lt. absurd (omega (arith, lt));
+          });
+          gained = subst (λ (x : List ℕ). Gains sk.tells sk.held opened opened x) (sym (ap (λ (k : ℕ). (session s k).text) lines)) (gains_none sk.tells sk.held opened);
+        }
+
+    -- there was no memory to begin with
+    pub not_begun : (run : Run) → run.state ≡ fresh → run.lines ≡ 0 → run.refused ≡ false → run.starved.items ≡ [] → run.faulted.items ≡ [] →
+        Runs fs sk commands begun opened (ended_run 5 run) begun opened
+    unfolding session
+    not_begun run state lines refused starved faulted =
+        let r = nothing_run run state lines refused starved faulted in
+        let none : starved_by (ended_run 5 run) ≡ run.starved.items = ap (with_last run.starved.items) lines in
+        let s = script_by commands r.maps (ended_run 5 run) in
+        let same : script_of commands r.maps run ≡ s = ap (λ (xs : List ℕ). let t : Script = record { commands = commands; maps = r.maps; starved = xs; faulted = run.faulted.items } in t) (sym none) in
+        runs_end commands r.maps begun opened (ended_run 5 run) run.state run.refused begun opened
+        (subst (λ (t : Script). Follows fs t begun run.lines run.state run.refused begun) same r.follows)
+        (subst (λ (t : Script). Counted fs t begun run.lines begun) same r.counted)
+        (ending_starved sk s opened run opened
+        (record { transcript = subst (λ (k : ℕ). Gains sk.tells sk.held opened opened (before_reply s k)) (sym lines) (gains_none sk.tells sk.held opened) })
+        (λ lt. absurd (omega (arith, lt, lines))))
+
+    -- the input gives no command
+    asks : (run : Run) (files : F) (screen : K) (p : Prompted fs sk commands begun opened run files screen) (status : ℕ) → EndsAsking sk (script_of commands p.reached.maps run) opened (ended_run status run) screen
+    asks run files screen p status =
+        let s = script_of commands p.reached.maps run in
+        subst (λ (t : State). Gains sk.tells sk.held opened screen ((session s run.lines).text ++ prompt t)) p.reached.follows.state_is
+        (gains_then sk.tells sk.held opened p.before screen (session s run.lines).text (prompt run.state) p.reached.gained p.prompted)
+
+    pub input_failed : (run : Run) (files : F) (screen : K) → Prompted fs sk commands begun opened run files screen → Runs fs sk commands begun opened (ended_run 3 run) files screen
+    input_failed run files screen p =
+        let r = p.reached in
+        runs_end commands r.maps begun opened (ended_run 3 run) run.state run.refused files screen r.follows r.counted
+        (ending_failed sk (script_of commands r.maps run) opened run screen (asks run files screen p 3))
+
+    pub input_spent : (run : Run) (files : F) (screen : K) → Prompted fs sk commands begun opened run files screen → Runs fs sk commands begun opened (ended_run 7 run) files screen
+    input_spent run files screen p =
+        let r = p.reached in
+        runs_end commands r.maps begun opened (ended_run 7 run) run.state run.refused files screen r.follows r.counted
+        (ending_spent sk (script_of commands r.maps run) opened run screen (asks run files screen p 7))
+
+    -- the session has come to its end, with its whole transcript on the screen
+    ends_by : (run : Run) (files : F) (screen screen' : K) (refused : Bool) (r : Reached fs sk commands begun opened run files screen) → EndsWhole sk (script_of commands r.maps run) opened (ended_run (end_status refused) run) screen' →
+        RunsTo fs sk commands begun opened (end_status refused) run files screen'
+    ends_by run files screen screen' true r whole = record { runs = runs_end commands r.maps begun opened (ended_run 1 run) run.state run.refused files screen' r.follows r.counted (ending_whole sk (script_of commands r.maps run) opened run screen' true whole); state = λ lt. sym r.follows.state_is }
+    ends_by run files screen screen' false r whole = record { runs = runs_end commands r.maps begun opened (ended_run 0 run) run.state run.refused files screen' r.follows r.counted (ending_whole sk (script_of commands r.maps run) opened run screen' false whole); state = λ lt. sym r.follows.state_is }
+
+    ends : (run : Run) (files : F) (screen screen' : K) (status : ℕ) → status ≡ end_status run.refused → (r : Reached fs sk commands begun opened run files screen) →
+        (run.state.ended ≡ false → run.lines ≡ length commands) → Gains sk.tells sk.held screen screen' (last_text run.state) →
+        RunsTo fs sk commands begun opened status run files screen'
+    ends run files screen screen' status is r all last =
+        let s = script_of commands r.maps run in
+        let written = gains_then sk.tells sk.held opened screen screen' (session s run.lines).text (last_text run.state) r.gained last in
+        let whole : EndsWhole sk s opened (ended_run (end_status run.refused) run) screen' = record {
+          all = λ e. all (ap (λ (t : State). t.ended) r.follows.state_is ∙ e);
+          status = ap end_status r.follows.refused_is;
+          transcript = subst (λ (t : State). Gains sk.tells sk.held opened screen' ((session s run.lines).text ++ last_text t)) r.follows.state_is written;
+        } in
+        subst (λ (k : ℕ). RunsTo fs sk commands begun opened k run files screen') (sym is) (ends_by run files screen screen' run.refused r whole)
+
+    not_low : {P : Type 0} (n : ℕ) → 2 ≤ n → n < 2 → P
+    not_low n high low = absurd (omega (arith, high, low))
+
+    -- the input has ended
+    pub finishes : (run : Run) (files : F) (screen screen' : K) (status : ℕ) → Prompted fs sk commands begun opened run files screen → run.lines ≡ length commands → run.state.ended ≡ false →
+        Finished sk run.refused screen status screen' → RunsTo fs sk commands begun opened status run files screen'
+    finishes run files screen screen' status p all open_still (Unwritten e part) =
+        subst (λ (k : ℕ). RunsTo fs sk commands begun opened k run files screen') (sym e) (record { runs = cut_at_end run files screen screen' p all part; state = λ lt. not_low 4 (omega arith) lt })
+    finishes run files screen screen' status p all open_still (Written e lf) =
+        ends run files p.before screen' status e p.reached (λ o. all)
+        (subst (λ (b : Bool). Gains sk.tells sk.held p.before screen' (if b then [] else prompt run.state ++ 10 ∷ [])) (sym open_still)
+        (gains_then sk.tells sk.held p.before screen screen' (prompt run.state) (10 ∷ []) p.prompted lf))
+
+    -- EXIT has ended the session
+    pub exits : (run : Run) (files : F) (screen : K) (status : ℕ) → status ≡ end_status run.refused → run.state.ended ≡ true → Reached fs sk commands begun opened run files screen →
+        RunsTo fs sk commands begun opened status run files screen
+    exits run files screen status is over r =
+        ends run files screen screen status is r (λ o. let no : true ≡ false = sym over ∙ o in cc)
+        (subst (λ (b : Bool). Gains sk.tells sk.held screen screen (if b then [] else prompt run.state ++ 10 ∷ [])) (sym over) (gains_none sk.tells sk.held screen))

@@ -1,5 +1,5 @@
 -- What the answers of the session machine mean.
-use Rattle.std.proofs.Common.{◌≡◌, ◌≢◌, ◌<◌, ◌++◌, ◌+◌, ℕ, zero, suc, Bool, true, false, List, [], ◌∷◌, Option, Some, None, Result, Ok, Err, is_ok, refl, sym, ◌∙◌, ap, subst, arith, length, length-append, codes}
+use Rattle.std.proofs.Common.{◌≡◌, ◌≢◌, ◌<◌, ◌++◌, ◌+◌, ◌==◌, ◌&&◌, ◌||◌, not, nat_lt, if◌then◌else◌, ℕ, zero, suc, Bool, true, false, List, [], ◌∷◌, Option, Some, None, Result, Ok, Err, is_ok, refl, sym, ◌∙◌, ap, subst, arith, length, length-append, codes}
 use Rattle.std.specs.Fmt.{decimal}
 use Rattle.mm_base.specs.Files.{Map}
 use Rattle.mm_scope.specs.Contents.{is_read, find_label, stated_at}
@@ -9,18 +9,31 @@ use Rattle.mm_scope.specs.declared.fault.ReadFault.{ReadFault}
 use Rattle.mm_stated.specs.declared.statement.Kind.{Kind}
 use Rattle.mm_stated.specs.declared.statement.Kind.TheVariants.{Float, Essential, Axiom, Theorem}
 use Rattle.mm_stack.specs.declared.outcome.Verdict.{Verdict}
-use Rattle.mm_stack.specs.declared.outcome.StackFault.{StackFault}
 use Rattle.mm_stack.specs.declared.outcome.Verdict.TheVariants.{Accepted, Incomplete, Faulty}
 use Rattle.mm_stack.specs.Decoding.{is_compressed}
 use Rattle.mm_stack.specs.Accepting.{verdict_of, Accepts}
-use Rattle.mm_session.specs.declared.state.State.{State}
-use Rattle.mm_session.specs.Effect.{Effect, Outcome, Fine, Starved, Faulted, ended}
-use Rattle.mm_session.specs.Command.{Meaning, Nothing, Read, Verify, NotBuilt, command_of}
-use Rattle.mm_session.specs.Effects.{command_effect, step_of, read_bytes, read_found, read_with, verify_proof, verify_kind, verify_found, verify_with}
-use Rattle.mm_session.specs.Texts.{not_built_text, already_read_text, no_file_text, database_fault_text, read_text, no_database_text, no_statement_text, not_theorem_text}
-use Rattle.mm_session.specs.Verdicts.{checked_text, fault_text, verdict_text}
-use Rattle.mm_session.specs.Session.{session, turn, effect_of}
-use Rattle.mm_session.specs.Laws.{SaysAccepted, AcceptedIsSaid, DatabaseIsSound, ReadIsWhole}
+use Rattle.mm_effects.specs.declared.state.State.{State}
+use Rattle.mm_effects.specs.Effect.{Effect}
+use Rattle.mm_command.specs.declared.fault.LineFault.{LineFault}
+use Rattle.mm_command.specs.Meanings.{Meaning, Nothing, Read, VerifyProof, WriteSource, Prove, Exit, Save}
+use Rattle.mm_effects.specs.Asked.{Asked, TooLong, Wrong, Asks, asked_of, is_pattern}
+use Rattle.mm_effects.specs.Effects.{command_effect, asked_effect, step_of, refusal, answer, silent, with_saved, save_answer, save_known, save_open, save_with, exit_effect, read_effect, write_effect, is_closed, prove_unproved, prove_kind, prove_found, prove_with, prove_effect, read_bytes, read_found, read_with, verify_proof, verify_kind, verify_found, verify_with, fixed_refusal}
+use Rattle.mm_effects.specs.Texts.{no_hand_text, long_text, not_unified_text, save_text, hand_held_text, guarded_text, not_saved_text, not_written_text, wrote_text, line_of, word_fault, line_fault_text, long_line_text, not_built_text, already_read_text, no_file_text, database_fault_text, read_text, no_database_text, no_statement_text, not_theorem_text}
+use Rattle.mm_effects.specs.declared.state.Hand.{Hand}
+use Rattle.mm_effects.specs.Counts.{numbers_text, counts_text}
+use Rattle.mm_effects.specs.Opened.{is_unproved}
+use Rattle.mm_plain.specs.declared.plain.Plain.{Plain}
+use Rattle.mm_plain.specs.Shape.{unknown, size_of}
+use Rattle.mm_plain.specs.Numbers.{pending_in}
+use Rattle.mm_forms.specs.Labels.{label_at}
+use Rattle.mm_sound.specs.Complete.{has_unknown}
+use Rattle.mm_save.specs.Saving.{names_pairs, saved}
+use Rattle.mm_subst.specs.Statements.{statement_of}
+use Rattle.mm_effects.specs.Verdicts.{checked_text, fault_text, verdict_text}
+use Rattle.mm_effects.specs.Sound.{AreSound}
+use Rattle.mm_effects.proofs.SoundLemmas.{stays_sound}
+use Rattle.mm_session.specs.Session.{Script, session, turn}
+use Rattle.mm_session.specs.Laws.{SaysAccepted, AcceptedIsSaid, SessionIsSound, ReadIsWhole}
 
 first : List ℕ → ℕ
 first [] = 0
@@ -34,6 +47,20 @@ first_accepted = refl
 other : (text : List ℕ) (n : ℕ) → first text ≡ n → n ≢ 67 → text ≡ checked_text 1 0 0 → ⊥
 other text n is differs e = differs (sym is ∙ (ap first e ∙ first_accepted))
 
+-- the words around a number begin with `?`
+abbrev BeginsWell : List ℕ → List ℕ × List ℕ → Type 0
+BeginsWell digits p = first (p.0 ++ (digits ++ p.1)) ≡ 63
+
+well_if : (digits : List ℕ) (c : Bool) (x y : List ℕ × List ℕ) → BeginsWell digits x → BeginsWell digits y → BeginsWell digits (if c then x else y)
+well_if digits true x y p q = p
+well_if digits false x y p q = q
+
+first_word_fault : (number : ℕ) (digits : List ℕ) → BeginsWell digits (word_fault number)
+unfolding first
+first_word_fault number digits =
+    well_if digits (number == 1) (codes "?C1: no keyword for word ", 10 ∷ []) (if number == 2 then (codes "?C2: word ", line_of (codes " is ambiguous")) else (codes "?C3: word ", line_of (codes " is wrong"))) refl
+    (well_if digits (number == 2) (codes "?C2: word ", line_of (codes " is ambiguous")) (codes "?C3: word ", line_of (codes " is wrong")) refl refl)
+
 first_nothing : first [] ≡ 0
 unfolding first
 first_nothing = refl
@@ -41,6 +68,54 @@ first_nothing = refl
 first_not_built : first not_built_text ≡ 63
 unfolding first not_built_text
 first_not_built = refl
+
+first_long_line : first long_line_text ≡ 63
+unfolding first long_line_text
+first_long_line = refl
+
+first_line_fault : (fault : LineFault) → first (line_fault_text fault) ≡ 63
+unfolding first line_fault_text
+first_line_fault fault = first_word_fault fault.number (decimal fault.word)
+
+first_hand_held : first hand_held_text ≡ 63
+unfolding first hand_held_text
+first_hand_held = refl
+
+first_guarded : (label : List ℕ) → first (guarded_text label) ≡ 63
+unfolding first guarded_text
+first_guarded label = refl
+
+first_not_saved : first not_saved_text ≡ 63
+unfolding first not_saved_text
+first_not_saved = refl
+
+first_not_written : first not_written_text ≡ 63
+unfolding first not_written_text
+first_not_written = refl
+
+first_wrote : (name : List ℕ) → first (wrote_text name) ≡ 87
+unfolding first wrote_text
+first_wrote name = refl
+
+first_counts : (bytes : List ℕ) (plain : Plain) → first (counts_text bytes plain) ≡ 83
+unfolding first counts_text numbers_text
+first_counts bytes plain = refl
+
+first_no_hand : first no_hand_text ≡ 63
+unfolding first no_hand_text
+first_no_hand = refl
+
+first_long : first long_text ≡ 63
+unfolding first long_text
+first_long = refl
+
+first_not_unified : (step : ℕ) → first (not_unified_text step) ≡ 63
+unfolding first not_unified_text
+first_not_unified step = refl
+
+first_save : (label : List ℕ) (open_still : Bool) (steps : ℕ) → first (save_text label open_still steps) ≡ 83
+unfolding first save_text
+first_save label open_still steps = refl
 
 first_already : first already_read_text ≡ 63
 unfolding first already_read_text
@@ -73,7 +148,12 @@ first_not_theorem label = refl
 refused_differs : let mark : ℕ = 63 in mark ≢ 67
 refused_differs e = omega (arith, e)
 
--- The database that was read has no fault.
+-- The state is sound after each command.
+
+pub session_is_sound : SessionIsSound
+unfolding session step_of
+session_is_sound s zero = tt
+session_is_sound s (suc n) = let t = turn s n in stays_sound (asked_of t.line) t.machine.state t.map t.outcome (session_is_sound s n)
 
 abbrev IsSoundIn : State → Type 0
 IsSoundIn s = (bytes : List ℕ) → s.database ≡ Some bytes → is_read bytes ≡ true
@@ -81,70 +161,26 @@ IsSoundIn s = (bytes : List ℕ) → s.database ≡ Some bytes → is_read bytes
 some_same : (a b : List ℕ) → (let x : Option (List ℕ) = Some a in x) ≡ Some b → a ≡ b
 some_same a b e = cc
 
+database_read : (database : Option (List ℕ)) (hand : Option Hand) → AreSound database hand → (bytes : List ℕ) → database ≡ Some bytes → is_read bytes ≡ true
+database_read None hand sound bytes e = let never : (let x : Option (List ℕ) = None in x) ≡ Some bytes = e in cc
+database_read (Some b) None sound bytes e = ap is_read (sym (some_same b bytes e)) ∙ sound
+database_read (Some b) (Some hand) sound bytes e = ap is_read (sym (some_same b bytes e)) ∙ sound.0
+
+database_is_sound : (s : Script) (n : ℕ) → IsSoundIn (session s n).state
+database_is_sound s n bytes e = database_read (session s n).state.database (session s n).state.hand (session_is_sound s n) bytes e
+
 read_if : (bytes : List ℕ) (past : List Event) → database_of bytes ≡ Ok past → is_read bytes ≡ true
 unfolding is_read
 read_if bytes past e = ap is_ok e
 
-bytes_sound : (s : State) (bytes : List ℕ) (r : Result (List Event) ReadFault) → database_of bytes ≡ r → IsSoundIn s → IsSoundIn (read_bytes s bytes r).state
-bytes_sound s bytes (Ok past) is known more e = ap is_read (sym (some_same bytes more e)) ∙ read_if bytes past is
-bytes_sound s bytes (Err f) is known more e = known more e
-
-found_sound : (s : State) (name : List ℕ) (found : Option (List ℕ)) → IsSoundIn s → IsSoundIn (read_found s name found).state
-found_sound s name None known = known
-found_sound s name (Some bytes) known = bytes_sound s bytes (database_of bytes) refl known
-
-read_keeps : (s : State) (database : Option (List ℕ)) (map : Map) (name : List ℕ) → IsSoundIn s → IsSoundIn (read_with s database map name).state
-read_keeps s None map name known = found_sound s name (map name) known
-read_keeps s (Some bytes) map name known = known
-
-proof_keeps : (s : State) (label bytes : List ℕ) (id : ℕ) (compressed : Bool) → (verify_proof s label bytes id compressed).state ≡ s
-proof_keeps s label bytes id true = refl
-proof_keeps s label bytes id false = refl
-
-kind_keeps : (s : State) (label bytes : List ℕ) (id : ℕ) (kind : Kind) → (verify_kind s label bytes id kind).state ≡ s
-kind_keeps s label bytes id Theorem = proof_keeps s label bytes id (is_compressed bytes id)
-kind_keeps s label bytes id Axiom = refl
-kind_keeps s label bytes id Essential = refl
-kind_keeps s label bytes id Float = refl
-
-found_keeps : (s : State) (label bytes : List ℕ) (found : Option ℕ) → (verify_found s label bytes found).state ≡ s
-found_keeps s label bytes None = refl
-found_keeps s label bytes (Some id) = kind_keeps s label bytes id (stated_at bytes id).kind
-
-verify_keeps : (s : State) (database : Option (List ℕ)) (label : List ℕ) → (verify_with s database label).state ≡ s
-verify_keeps s None label = refl
-verify_keeps s (Some bytes) label = found_keeps s label bytes (find_label bytes label)
-
-command_keeps : (m : Meaning) (s : State) (map : Map) → IsSoundIn s → IsSoundIn (command_effect m s map).state
-command_keeps Nothing s map known = known
-command_keeps (Read name) s map known = read_keeps s s.database map name known
-command_keeps (Verify label) s map known = subst IsSoundIn (sym (verify_keeps s s.database label)) known
-command_keeps NotBuilt s map known = known
-
-ended_keeps : (o : Outcome) (s : State) (e : Effect) → IsSoundIn s → IsSoundIn e.state → IsSoundIn (ended o s e).state
-ended_keeps Fine s e before after = after
-ended_keeps Starved s e before after = before
-ended_keeps Faulted s e before after = before
-
-step_keeps : (s : State) (map : Map) (line : List ℕ) → IsSoundIn s → IsSoundIn (step_of s map line).state
-unfolding step_of
-step_keeps s map line known = command_keeps (command_of line) s map known
-
-pub database_is_sound : DatabaseIsSound
-unfolding session
-database_is_sound s zero bytes e = let no : (let x : Option (List ℕ) = None in x) ≡ Some bytes = e in cc
-database_is_sound s (suc n) bytes e =
-    let t = turn s n in
-    let known = database_is_sound s n in
-    ended_keeps t.outcome t.machine.state (effect_of t) known (step_keeps t.machine.state t.map t.line known) bytes e
-
 -- Which commands say that a proof is accepted.
 
 -- the label of an accepted proof, in the database
-record Found (m : Meaning) (s : State) : Type 0 where
+record Found (a : Asked) (s : State) : Type 0 where
   bytes : List ℕ
   label : List ℕ
-  asked : m ≡ Verify label
+  asked : a ≡ Asks (VerifyProof label)
+  plain : is_pattern label ≡ false
   database : s.database ≡ Some bytes
   accepts : Accepts bytes label
 
@@ -206,9 +242,10 @@ found_says s label bytes (Some id) f b e =
     let says = kind_says s label bytes id (stated_at bytes id).kind e in
     record { id = id; read = b; found = f; theorem = says.0; normal = says.1.normal; accepted = says.1.accepted }
 
-verify_says : (s : State) (database : Option (List ℕ)) (label : List ℕ) → s.database ≡ database → IsSoundIn s → (verify_with s database label).text ≡ checked_text 1 0 0 → Found (Verify label) s
-verify_says s None label d known e = absurd (other no_database_text 63 first_no_database refused_differs e)
-verify_says s (Some bytes) label d known e = record {
+verify_says : (s : State) (database : Option (List ℕ)) (label : List ℕ) → s.database ≡ database → is_pattern label ≡ false → IsSoundIn s → (verify_with s database label).text ≡ checked_text 1 0 0 → Found (Asks (VerifyProof label)) s
+verify_says s None label d plain known e = absurd (other no_database_text 63 first_no_database refused_differs e)
+verify_says s (Some bytes) label d plain known e = record {
+  plain = plain;
   bytes = bytes;
   label = label;
   asked = refl;
@@ -216,30 +253,127 @@ verify_says s (Some bytes) label d known e = record {
   accepts = found_says s label bytes (find_label bytes label) refl (known bytes d) e;
 }
 
-command_says : (m : Meaning) (s : State) (map : Map) → IsSoundIn s → (command_effect m s map).text ≡ checked_text 1 0 0 → Found m s
+pattern_says : (s : State) (pattern : List ℕ) (several : Bool) → is_pattern pattern ≡ several → IsSoundIn s → (if several then fixed_refusal not_built_text s else verify_with s s.database pattern).text ≡ checked_text 1 0 0 →
+    Found (Asks (VerifyProof pattern)) s
+pattern_says s pattern true is known e = absurd (other not_built_text 63 first_not_built refused_differs e)
+pattern_says s pattern false is known e = verify_says s s.database pattern refl is known e
+
+hand_says : (s : State) (hand : Option Hand) (map : Map) (name : List ℕ) → (read_effect s hand map name).text ≡ checked_text 1 0 0 → ⊥
+hand_says s None map name e = says_with s s.database map name e
+hand_says s (Some hand) map name e = other hand_held_text 63 first_hand_held refused_differs e
+
+write_says : (s : State) (database : Option (List ℕ)) (name : List ℕ) → (write_effect s database name).text ≡ checked_text 1 0 0 → ⊥
+write_says s None name e = other no_database_text 63 first_no_database refused_differs e
+write_says s (Some bytes) name e = other (wrote_text name) 87 (first_wrote name) (λ x. omega (arith, x)) e
+
+unproved_says : (s : State) (bytes : List ℕ) (id : ℕ) (lone : Bool) → (prove_unproved s bytes id lone).text ≡ checked_text 1 0 0 → ⊥
+unproved_says s bytes id true e = other (counts_text bytes (unknown (statement_of bytes id))) 83 (first_counts bytes (unknown (statement_of bytes id))) (λ x. omega (arith, x)) e
+unproved_says s bytes id false e = other not_built_text 63 first_not_built refused_differs e
+
+theorem_says : (s : State) (label bytes : List ℕ) (id : ℕ) (closed : Bool) → (if closed then refusal (guarded_text label) s else prove_unproved s bytes id (is_unproved bytes id)).text ≡ checked_text 1 0 0 → ⊥
+theorem_says s label bytes id true e = other (guarded_text label) 63 (first_guarded label) refused_differs e
+theorem_says s label bytes id false e = unproved_says s bytes id (is_unproved bytes id) e
+
+prove_kind_says : (s : State) (label : List ℕ) (g : Bool) (bytes : List ℕ) (id : ℕ) (kind : Kind) → (prove_kind s label g bytes id kind).text ≡ checked_text 1 0 0 → ⊥
+prove_kind_says s label g bytes id Theorem e = theorem_says s label bytes id (is_closed g bytes id) e
+prove_kind_says s label g bytes id Axiom e = other (not_theorem_text label) 63 (first_not_theorem label) refused_differs e
+prove_kind_says s label g bytes id Essential e = other (not_theorem_text label) 63 (first_not_theorem label) refused_differs e
+prove_kind_says s label g bytes id Float e = other (not_theorem_text label) 63 (first_not_theorem label) refused_differs e
+
+prove_found_says : (s : State) (label : List ℕ) (g : Bool) (bytes : List ℕ) (found : Option ℕ) → (prove_found s label g bytes found).text ≡ checked_text 1 0 0 → ⊥
+prove_found_says s label g bytes None e = other (no_statement_text label) 63 (first_no_statement label) refused_differs e
+prove_found_says s label g bytes (Some id) e = prove_kind_says s label g bytes id (stated_at bytes id).kind e
+
+prove_with_says : (s : State) (database : Option (List ℕ)) (label : List ℕ) (g : Bool) → (prove_with s database label g).text ≡ checked_text 1 0 0 → ⊥
+prove_with_says s None label g e = other no_database_text 63 first_no_database refused_differs e
+prove_with_says s (Some bytes) label g e = prove_found_says s label g bytes (find_label bytes label) e
+
+prove_says : (s : State) (hand : Option Hand) (label : List ℕ) (g : Bool) → (prove_effect s hand label g).text ≡ checked_text 1 0 0 → ⊥
+prove_says s None label g e = prove_with_says s s.database label g e
+prove_says s (Some hand) label g e = other hand_held_text 63 first_hand_held refused_differs e
+
+answer_says : (s : State) (bytes : List ℕ) (hand : Hand) (some_unknown long : Bool) →
+    (if long then refusal long_text s else answer (save_text (label_at bytes hand.theorem.0) some_unknown (size_of hand.tree.proof.plain)) (with_saved s (saved bytes hand.theorem.0 hand.tree.proof.plain) hand)).text ≡ checked_text 1 0 0 → ⊥
+answer_says s bytes hand some_unknown true e = other long_text 63 first_long refused_differs e
+answer_says s bytes hand some_unknown false e =
+    other (save_text (label_at bytes hand.theorem.0) some_unknown (size_of hand.tree.proof.plain)) 83 (first_save (label_at bytes hand.theorem.0) some_unknown (size_of hand.tree.proof.plain)) (λ x. omega (arith, x)) e
+
+save_answer_says : (s : State) (bytes : List ℕ) (hand : Hand) (some_unknown : Bool) → (save_answer s bytes hand some_unknown).text ≡ checked_text 1 0 0 → ⊥
+save_answer_says s bytes hand some_unknown e = answer_says s bytes hand some_unknown (nat_lt 134217728 (length (saved bytes hand.theorem.0 hand.tree.proof.plain))) e
+
+pairs_says : (s : State) (bytes : List ℕ) (hand : Hand) (pairs : Bool) → (if pairs then refusal not_built_text s else save_answer s bytes hand false).text ≡ checked_text 1 0 0 → ⊥
+pairs_says s bytes hand true e = other not_built_text 63 first_not_built refused_differs e
+pairs_says s bytes hand false e = save_answer_says s bytes hand false e
+
+known_says : (s : State) (bytes : List ℕ) (hand : Hand) (pending : List ℕ) → (save_known s bytes hand pending).text ≡ checked_text 1 0 0 → ⊥
+known_says s bytes hand [] e = pairs_says s bytes hand (names_pairs bytes hand.tree.proof.plain) e
+known_says s bytes hand (step ∷ steps) e = other (not_unified_text step) 63 (first_not_unified step) refused_differs e
+
+open_says : (s : State) (bytes : List ℕ) (hand : Hand) (some_unknown : Bool) → (save_open s bytes hand some_unknown).text ≡ checked_text 1 0 0 → ⊥
+open_says s bytes hand true e = save_answer_says s bytes hand true e
+open_says s bytes hand false e = known_says s bytes hand (pending_in bytes hand.tree.proof.plain) e
+
+closed_says : (s : State) (bytes : List ℕ) (hand : Hand) (closed : Bool) → (if closed then refusal (guarded_text (label_at bytes hand.theorem.0)) s else save_open s bytes hand (has_unknown hand.tree.proof.plain)).text ≡ checked_text 1 0 0 → ⊥
+closed_says s bytes hand true e = other (guarded_text (label_at bytes hand.theorem.0)) 63 (first_guarded (label_at bytes hand.theorem.0)) refused_differs e
+closed_says s bytes hand false e = open_says s bytes hand (has_unknown hand.tree.proof.plain) e
+
+save_with_says : (s : State) (database : Option (List ℕ)) (hand : Option Hand) (g : Bool) → (save_with s database hand g).text ≡ checked_text 1 0 0 → ⊥
+save_with_says s (Some bytes) (Some hand) g e = closed_says s bytes hand (is_closed g bytes hand.theorem.0) e
+save_with_says s (Some bytes) None g e = other no_hand_text 63 first_no_hand refused_differs e
+save_with_says s None (Some hand) g e = other no_hand_text 63 first_no_hand refused_differs e
+save_with_says s None None g e = other no_hand_text 63 first_no_hand refused_differs e
+
+save_says : (s : State) (unbuilt g : Bool) → (if unbuilt then fixed_refusal not_built_text s else save_with s s.database s.hand g).text ≡ checked_text 1 0 0 → ⊥
+save_says s true g e = other not_built_text 63 first_not_built refused_differs e
+save_says s false g e = save_with_says s s.database s.hand g e
+
+leave_says : (s : State) (kept : Bool) → (if kept then fixed_refusal not_saved_text s else silent (record s { hand = None })).text ≡ checked_text 1 0 0 → ⊥
+leave_says s true e = other not_saved_text 63 first_not_saved refused_differs e
+leave_says s false e = other [] 0 first_nothing (λ x. omega (arith, x)) e
+
+end_says : (s : State) (kept : Bool) → (if kept then fixed_refusal not_written_text s else silent (record s { ended = true })).text ≡ checked_text 1 0 0 → ⊥
+end_says s true e = other not_written_text 63 first_not_written refused_differs e
+end_says s false e = other [] 0 first_nothing (λ x. omega (arith, x)) e
+
+exit_says : (s : State) (hand : Option Hand) (force : Bool) → (exit_effect s hand force).text ≡ checked_text 1 0 0 → ⊥
+exit_says s None force e = end_says s (s.unwritten && not force) e
+exit_says s (Some hand) force e = leave_says s (hand.changed && not force) e
+
+command_says : (m : Meaning) (s : State) (map : Map) → IsSoundIn s → (command_effect m s map).text ≡ checked_text 1 0 0 → Found (Asks m) s
+unfolding command_effect
 command_says Nothing s map known e = absurd (other [] 0 first_nothing (λ x. omega (arith, x)) e)
-command_says (Read name) s map known e = absurd (says_with s s.database map name e)
-command_says (Verify label) s map known e = verify_says s s.database label refl known e
-command_says NotBuilt s map known e = absurd (other not_built_text 63 first_not_built refused_differs e)
+command_says (Read name) s map known e = absurd (hand_says s s.hand map name e)
+command_says (WriteSource name) s map known e = absurd (write_says s s.database name e)
+command_says (Prove label g) s map known e = absurd (prove_says s s.hand label g e)
+command_says (VerifyProof pattern) s map known e = pattern_says s pattern (is_pattern pattern) refl known e
+command_says (Save normal compressed g) s map known e = absurd (save_says s (normal || compressed) g e)
+command_says (Exit force) s map known e = absurd (exit_says s s.hand force e)
+command_says _ s map known e = absurd (other not_built_text 63 first_not_built refused_differs e)
+
+asked_says : (a : Asked) (s : State) (map : Map) → IsSoundIn s → (asked_effect a s map).text ≡ checked_text 1 0 0 → Found a s
+asked_says TooLong s map known e = absurd (other long_line_text 63 first_long_line refused_differs e)
+asked_says (Wrong fault) s map known e = absurd (other (line_fault_text fault) 63 (first_line_fault fault) refused_differs e)
+asked_says (Asks m) s map known e = command_says m s map known e
 
 pub says_accepted : SaysAccepted
 unfolding step_of
 says_accepted s n e =
     let t = turn s n in
-    let f = command_says (command_of t.line) t.machine.state t.map (database_is_sound s n) e in
-    record { bytes = f.bytes; label = f.label; asked = f.asked; database = f.database; accepts = f.accepts }
+    let f = asked_says (asked_of t.line) t.machine.state t.map (database_is_sound s n) e in
+    record { bytes = f.bytes; label = f.label; asked = f.asked; plain = f.plain; database = f.database; accepts = f.accepts }
 
 pub accepted_is_said : AcceptedIsSaid
-unfolding step_of
+unfolding step_of command_effect
 accepted_is_said s n a =
     let t = turn s n in
     let c = a.accepts in
-    ap (λ (m : Meaning). (command_effect m t.machine.state t.map).text) a.asked
+    ap (λ (m : Asked). (asked_effect m t.machine.state t.map).text) a.asked
+    ∙ (ap (λ (b : Bool). (if b then fixed_refusal not_built_text t.machine.state else verify_with t.machine.state t.machine.state.database a.label).text) a.plain
     ∙ (ap (λ (d : Option (List ℕ)). (verify_with t.machine.state d a.label).text) a.database
     ∙ (ap (λ (f : Option ℕ). (verify_found t.machine.state a.label a.bytes f).text) c.found
     ∙ (ap (λ (k : Kind). (verify_kind t.machine.state a.label a.bytes c.id k).text) c.theorem
     ∙ (ap (λ (b : Bool). (verify_proof t.machine.state a.label a.bytes c.id b).text) c.normal
-    ∙ ap (verdict_text a.bytes a.label) c.accepted))))
+    ∙ ap (verdict_text a.bytes a.label) c.accepted)))))
 
 -- What READ puts into the state.
 
@@ -261,14 +395,19 @@ with_whole : (s : State) (database : Option (List ℕ)) (map : Map) (name : List
 with_whole s None map name e = found_whole s name (map name) e
 with_whole s (Some bytes) map name e = let no : true ≡ false = e in cc
 
-command_whole : (m : Meaning) (s : State) (map : Map) (name : List ℕ) → m ≡ Read name → (command_effect m s map).refused ≡ false → Whole (command_effect m s map) (map name)
-command_whole m s map name is e =
-    subst (λ (m' : Meaning). Whole (command_effect m' s map) (map name)) (sym is)
-    (with_whole s s.database map name (sym (ap (λ (m' : Meaning). (command_effect m' s map).refused) is) ∙ e))
+hand_whole : (s : State) (hand : Option Hand) (map : Map) (name : List ℕ) → (read_effect s hand map name).refused ≡ false → Whole (read_effect s hand map name) (map name)
+hand_whole s None map name e = with_whole s s.database map name e
+hand_whole s (Some hand) map name e = let no : true ≡ false = e in cc
+
+asked_whole : (a : Asked) (s : State) (map : Map) (name : List ℕ) → a ≡ Asks (Read name) → (asked_effect a s map).refused ≡ false → Whole (asked_effect a s map) (map name)
+unfolding command_effect
+asked_whole a s map name is e =
+    subst (λ (a' : Asked). Whole (asked_effect a' s map) (map name)) (sym is)
+    (hand_whole s s.hand map name (sym (ap (λ (a' : Asked). (asked_effect a' s map).refused) is) ∙ e))
 
 pub read_is_whole : ReadIsWhole
 unfolding step_of
 read_is_whole s n name asked e =
     let t = turn s n in
-    let w = command_whole (command_of t.line) t.machine.state t.map name asked e in
+    let w = asked_whole (asked_of t.line) t.machine.state t.map name asked e in
     record { bytes = w.bytes; found = w.under; sound = w.sound; database = w.database }

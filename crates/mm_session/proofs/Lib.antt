@@ -1,5 +1,8 @@
 pub mod CourseLemmas
-pub mod EffectLemmas
+mod ComingLemmas
 pub mod HeadlineLemmas
+mod KeptLemmas
 pub mod LawLemmas
 pub mod SessionLemmas
+mod TakenLemmas
+mod TurnLemmas

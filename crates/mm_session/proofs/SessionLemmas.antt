@@ -5,15 +5,18 @@ use Rattle.std.proofs.lemmas.Bool.Decides.{nat_tests}
 use Rattle.mm_base.specs.declared.files.Files.{Ghosts as FilesOf}
 use Rattle.mm_base.specs.Files.{Map, put}
 use Rattle.mm_base.specs.Outside.{CountsFaults}
-use Rattle.mm_session.specs.declared.state.State.{State}
-use Rattle.mm_session.specs.declared.reply.Reply.{Reply}
+use Rattle.mm_effects.specs.declared.state.State.{State}
+use Rattle.mm_effects.specs.declared.reply.Reply.{Reply}
 use Rattle.mm_session.specs.declared.run.Run.{Run}
-use Rattle.mm_session.specs.Effect.{Effect, Outcome, Fine, Starved, Faulted, outcome, ended, is_faulted, is_refused, with_puts, add_put}
-use Rattle.mm_session.specs.Effects.{step_of}
+use Rattle.mm_effects.specs.Effect.{Effect, Outcome, Fine, Starved, Faulted, outcome, ended, is_faulted, is_refused, with_puts, add_put}
+use Rattle.mm_effects.specs.Asked.{Asked}
+use Rattle.mm_effects.specs.Effects.{asked_effect, step_of}
 use Rattle.mm_session.specs.Session.{Script, Machine, Turn, Maps, session, turn, turn_in, after, outcome_of, effect_of, prompt, echo}
 use Rattle.mm_session.specs.Course.{Follows, script, script_of}
-use Rattle.mm_session.specs.Calls.{Fails, HasCause, FaultsExactly, Counted}
-use Rattle.mm_session.specs.Advance.{HasRun, GoesOn, RunsOn}
+use Rattle.mm_effects.specs.Calls.{Fails}
+use Rattle.mm_session.specs.Calls.{HasCause, FaultsExactly, Counted}
+use Rattle.mm_effects.specs.Ran.{HasRun}
+use Rattle.mm_session.specs.Advance.{IsLine, GoesOn, RunsOn}
 use Rattle.mm_session.proofs.CourseLemmas.{starved_after, faulted_after, outcome_now, outcome_before, rise_starved, rise_faulted, apart_after, rose_after, held_after, not_starved, was_none}
 
 pub session_suc : (s : Script) (n : ℕ) → session s (suc n) ≡ after (turn s n)
@@ -81,6 +84,7 @@ fails_back xs a b e f = let lt : b < 18446744073709551615 = f.0 in let is : b �
 record IsNext {F : Type 0} (fs : FilesOf F) (s : Script) (begun : F) (n : ℕ) (state : State) (refused : Bool) (before : F) (line : List ℕ) (r : Reply) (state' : State) (refused' : Bool) (now : F) : Type 0 where
   pub follows : Follows fs s begun n state refused before
   pub at : slice_index_or s.commands n [] ≡ line
+  pub open_still : state.ended ≡ false
   pub told : IsTrue (fs.tells now) → IsTrue (fs.tells before)
   pub has_run : HasRun fs (λ map. step_of state map line) state before r state' now
   pub counts : CountsFaults (is_faulted r) (fs.faults before) (fs.faults now)
@@ -146,7 +150,7 @@ module _ {F : Type 0} (fs : FilesOf F) (s : Script) (begun : F) (n : ℕ) (state
         apart = apart_after o s.starved s.faulted n t.follows.starved t.follows.faulted t.follows.apart;
         rose = rose_after r s.faulted (suc n) (fs.faults begun) (fs.faults before) (fs.faults now) t.follows.rose t.counts;
         held = held_after r s.faulted (suc n) (fs.faults begun) (fs.faults before) (fs.faults now) t.follows.held t.counts;
-        causes = each_turn HasCause t.follows.causes (record { memory = meets.starved; files = meets.faulted });
+        causes = each_turn HasCause t.follows.causes (record { goes_on = t.open_still; memory = meets.starved; files = meets.faulted });
       }
 
   faults_now : (IsTrue (fs.tells_failing now)) → outcome r ≢ Starved → fs.failing before ≡ fs.failing begun → min (fs.calls before) 18446744073709551615 ≡ min (fs.calls begun + (session s n).calls) 18446744073709551615 → FaultsExactly fs begun it
@@ -199,15 +203,22 @@ module _ {F : Type 0} (fs : FilesOf F) (s : Script) (begun : F) (n : ℕ) (state
 module _ {F : Type 0} (fs : FilesOf F) where
   -- a run goes on by a command that was run
   pub runs_on : (commands : List (List ℕ)) (maps : Maps) (begun : F) (old : Run) (before : F) (line : List ℕ) (r : Reply) (state : State) (refused : Bool) (now : F) (starved faulted : List ℕ) →
-      Follows fs (script_of commands maps old) begun old.lines old.state old.refused before → slice_index_or commands old.lines [] ≡ line →
+      Follows fs (script_of commands maps old) begun old.lines old.state old.refused before → slice_index_or commands old.lines [] ≡ line → old.state.ended ≡ false →
       (IsTrue (fs.tells now) → IsTrue (fs.tells before)) → HasRun fs (λ map. step_of old.state map line) old.state before r state now → CountsFaults (is_faulted r) (fs.faults before) (fs.faults now) →
       refused ≡ (old.refused || is_refused r) → starved ≡ starved_after (outcome r) old.starved.items (old.lines + 1) → faulted ≡ faulted_after (outcome r) old.faulted.items (old.lines + 1) →
       RunsOn fs commands maps begun old before line r starved faulted state refused now
-  runs_on commands maps begun old before line r state refused now starved faulted follows at told has_run counts e s f =
-      let t : IsNext fs (script_of commands maps old) begun old.lines old.state old.refused before line r state refused now = record { follows = follows; at = at; told = told; has_run = has_run; counts = counts; refused_is = e } in
+  runs_on commands maps begun old before line r state refused now starved faulted follows at open_still told has_run counts e s f =
+      let t : IsNext fs (script_of commands maps old) begun old.lines old.state old.refused before line r state refused now = record { follows = follows; at = at; open_still = open_still; told = told; has_run = has_run; counts = counts; refused_is = e } in
       let one : old.lines + 1 ≡ suc old.lines = omega arith in
       record {
         maps' = next_maps (fs.tells now) maps old.lines has_run.map;
         goes = goes_on_as fs (script_of commands maps old) begun old.lines old.state old.refused before line r state refused now t starved faulted
             (s ∙ ap (starved_after (outcome r) old.starved.items) one) (f ∙ ap (faulted_after (outcome r) old.faulted.items) one);
       }
+
+-- what is handed on of a line does what the whole line does
+pub line_runs : {F : Type 0} (fs : FilesOf F) (s : State) (line whole : List ℕ) (before : F) (r : Reply) (s' : State) (now : F) → IsLine line whole →
+    HasRun fs (λ map. step_of s map line) s before r s' now → HasRun fs (λ map. step_of s map whole) s before r s' now
+unfolding step_of
+line_runs fs s line whole before r s' now is has_run =
+    subst (λ (a : Asked). HasRun fs (λ map. asked_effect a s map) s before r s' now) is.asks has_run

@@ -1,25 +1,14 @@
--- The calls that commands make on the files.
-use Rattle.std.specs.Prelude.{◌≡◌, ◌≢◌, ◌<◌, ◌+◌, ◌↔◌, ℕ, Bool, true, false, IsTrue, List, [], Contains, min}
+-- Why commands end as they do, and how many calls they make on the files.
+use Rattle.std.specs.Prelude.{◌≡◌, ◌<◌, ◌+◌, ◌↔◌, ℕ, true, false, IsTrue, [], min}
 use Rattle.mm_base.specs.declared.files.Files.{Ghosts as FilesOf}
-use Rattle.mm_session.specs.declared.reply.Reply.{Reply}
-use Rattle.mm_session.specs.Effect.{outcome, Starved, Faulted}
+use Rattle.mm_effects.specs.Calls.{Fails}
+use Rattle.mm_effects.specs.Effect.{Starved, Faulted}
 use Rattle.mm_session.specs.Session.{Script, Turn, turn, session, effect_of}
 
--- Whether a call fails that comes after n others.
-abbrev pub Fails : List ℕ → ℕ → Type 0
-Fails failing n = (n < 18446744073709551615) × Contains failing (n + 1)
-
--- A command makes one call where it reaches the files and isn't starved, and fails where that call does. Else it makes none.
-pub record Calls {F : Type 0} (fs : FilesOf F) (old new : F) (reaches : Bool) (reply : Reply) : Type 0 where
-  pub told : IsTrue (fs.tells_failing new) → IsTrue (fs.tells_failing old)
-  pub same : IsTrue (fs.tells_failing new) → fs.failing new ≡ fs.failing old
-  pub none : IsTrue (fs.tells_failing new) → reaches ≡ false → fs.calls new ≡ fs.calls old
-  pub one : IsTrue (fs.tells_failing new) → outcome reply ≢ Starved → reaches ≡ true → fs.calls new ≡ min (fs.calls old + 1) 18446744073709551615
-  pub fails : IsTrue (fs.tells_failing new) → outcome reply ≡ Faulted → Fails (fs.failing old) (fs.calls old)
-  pub faulted : IsTrue (fs.tells_failing new) → outcome reply ≢ Starved → reaches ≡ true → Fails (fs.failing old) (fs.calls old) → outcome reply ≡ Faulted
-
--- A command starves only where it takes memory, and meets a file fault only where it reaches the files.
+-- A command is run before the session has ended. It starves only where it takes memory, and meets a file fault only
+-- where it reaches the files.
 pub record HasCause (t : Turn) : Type 0 where
+  pub goes_on : t.machine.state.ended ≡ false
   pub memory : t.outcome ≡ Starved → (effect_of t).free ≡ false
   pub files : t.outcome ≡ Faulted → (effect_of t).reaches_files ≡ true
 

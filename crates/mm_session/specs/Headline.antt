@@ -1,23 +1,31 @@
 -- What holds of a session that has ended.
-use Rattle.std.specs.Prelude.{◌≡◌, ◌<◌, ◌≤◌, ◌==◌, ℕ, zero, suc, nat_lt, if◌then◌else◌, Bool, IsTrue, List, [], ◌∷◌, ◌++◌, length, slice_index_or}
+use Rattle.std.specs.Prelude.{◌≡◌, ◌<◌, ◌==◌, ◌||◌, ℕ, zero, suc, nat_lt, if◌then◌else◌, Bool, true, false, IsTrue, List, [], ◌∷◌, ◌++◌, length, slice_index_or, Contains}
 use Rattle.mm_base.specs.declared.files.Files.{Ghosts as FilesOf}
 use Rattle.mm_base.specs.declared.sink.Sink.{Ghosts as SinkOf}
+use Rattle.mm_base.specs.declared.source.Source.{Ghosts as SourceOf}
 use Rattle.mm_base.specs.Outside.{RoseBy}
 use Rattle.mm_base.specs.Sink.{Gains, GainsPart}
 use Rattle.mm_session.specs.declared.session.SessionEnd.{SessionEnd}
 use Rattle.mm_session.specs.declared.run.Run.{Run}
-use Rattle.mm_session.specs.Effect.{with_puts}
+use Rattle.mm_effects.specs.declared.state.State.{State}
+use Rattle.mm_effects.specs.Effect.{with_puts}
 use Rattle.mm_session.specs.Calls.{HasCause, FaultsExactly, Counted}
 use Rattle.mm_session.specs.Session.{Script, Maps, maps_of, session, turn, prompt, echo}
 use Rattle.mm_session.specs.Course.{Rise, AreApart, Follows, script, script_of}
+use Rattle.mm_session.specs.Taken.{Takes}
+
+-- the numbers, and that of the last command, if there is one
+abbrev pub with_last : List ℕ → ℕ → List ℕ
+with_last numbers zero = numbers
+with_last numbers (suc n) = numbers ++ suc n ∷ []
 
 -- the numbers of the commands that starved: with status 5 the last command too
 abbrev pub starved_by : SessionEnd → List ℕ
-starved_by end = if end.status == 5 then end.starved.items ++ end.lines ∷ [] else end.starved.items
+starved_by end = if end.status == 5 then with_last end.starved.items end.lines else end.starved.items
 
 -- the numbers of the commands that met a file fault: with status 6 the last command too
 abbrev pub faulted_by : SessionEnd → List ℕ
-faulted_by end = if end.status == 6 then end.faulted.items ++ end.lines ∷ [] else end.faulted.items
+faulted_by end = if end.status == 6 then with_last end.faulted.items end.lines else end.faulted.items
 
 -- the script of a session that has ended
 abbrev pub script_by : List (List ℕ) → Maps → SessionEnd → Script
@@ -36,30 +44,41 @@ next_text s n = prompt (session s n).state ++ (if nat_lt n (length s.commands) t
 abbrev pub end_status : Bool → ℕ
 end_status refused = if refused then 1 else 0
 
--- Every command was run, and the whole transcript was written.
+-- what is written at the end: nothing after EXIT, and else the last prompt and the end of its line
+abbrev pub last_text : State → List ℕ
+last_text state = if state.ended then [] else prompt state ++ 10 ∷ []
+
+-- The session has ended by EXIT, or every command was run; and the whole transcript was written.
 pub record EndsWhole {K : Type 0} (sk : SinkOf K) (s : Script) (opened : K) (end : SessionEnd) (screen : K) : Type 0 where
-  pub all : end.lines ≡ length s.commands
+  pub all : (session s end.lines).state.ended ≡ false → end.lines ≡ length s.commands
   pub status : end.status ≡ end_status (session s end.lines).refused
-  pub transcript : Gains sk.tells sk.held opened screen ((session s end.lines).text ++ (prompt (session s end.lines).state ++ 10 ∷ []))
+  pub transcript : Gains sk.tells sk.held opened screen ((session s end.lines).text ++ last_text (session s end.lines).state)
 
 -- The screen has failed, with the first bytes of the transcript on it.
 abbrev pub EndsCut : {K : Type 0} (sk : SinkOf K) (s : Script) (opened : K) (end : SessionEnd) (screen : K) → Type 0
 EndsCut sk s opened end screen =
     GainsPart sk.tells sk.held opened screen (before_reply s end.lines) ((session s end.lines).text ++ next_text s end.lines)
 
--- The last command was given up after its echo.
+-- The input gave no line, after the prompt.
+abbrev pub EndsAsking : {K : Type 0} (sk : SinkOf K) (s : Script) (opened : K) (end : SessionEnd) (screen : K) → Type 0
+EndsAsking sk s opened end screen = Gains sk.tells sk.held opened screen ((session s end.lines).text ++ prompt (session s end.lines).state)
+
+-- The last command was given up after its echo; or, where none was run, there was no memory to begin with.
 pub record GivesUp {K : Type 0} (sk : SinkOf K) (s : Script) (opened : K) (end : SessionEnd) (screen : K) : Type 0 where
-  pub some : 0 < end.lines
   pub transcript : Gains sk.tells sk.held opened screen (before_reply s end.lines)
 
--- The session is the machine's over the maps that its commands met: over the files' own, where they tell it.
-pub record IsSession {F K : Type 0} (fs : FilesOf F) (sk : SinkOf K) (commands : List (List ℕ)) (begun : F) (opened : K) (end : SessionEnd) (files : F) (screen : K) : Type 0 where
+-- The commands were run as the machine runs them, over the maps that they met: over the files' own, where they tell it.
+pub record Runs {F K : Type 0} (fs : FilesOf F) (sk : SinkOf K) (commands : List (List ℕ)) (begun : F) (opened : K) (end : SessionEnd) (files : F) (screen : K) : Type 0 where
   pub maps : Maps
   pub told : IsTrue (fs.tells files) → maps ≡ maps_of (fs.lookup begun)
+  pub which : Contains (0 ∷ 1 ∷ 3 ∷ 4 ∷ 5 ∷ 6 ∷ 7 ∷ []) end.status
   -- what was written to the screen
   pub whole : end.status < 2 → EndsWhole sk (script_by commands maps end) opened end screen
+  pub asking : (end.status == 3 || end.status == 7) ≡ true → EndsAsking sk (script_by commands maps end) opened end screen
   pub cut : end.status ≡ 4 → EndsCut sk (script_by commands maps end) opened end screen
-  pub given_up : 5 ≤ end.status → GivesUp sk (script_by commands maps end) opened end screen
+  pub given_up : (end.status == 5 || end.status == 6) ≡ true → GivesUp sk (script_by commands maps end) opened end screen
+  pub starving : end.status ≡ 5 → 0 < end.lines → length end.starved.items ≡ 64
+  pub faulting : end.status ≡ 6 → length end.faulted.items ≡ 64
   -- what was put into the files
   pub put : IsTrue (fs.tells files) → fs.lookup files ≡ with_puts (fs.lookup begun) (session (script_by commands maps end) end.lines).puts
   -- the numbers are those of commands that were run, in order, and none is in both lists
@@ -72,11 +91,15 @@ pub record IsSession {F K : Type 0} (fs : FilesOf F) (sk : SinkOf K) (commands :
   pub files_held : faulted_by end ≡ [] → fs.faults files ≡ fs.faults begun
   pub faults_exactly : IsTrue (fs.tells_failing files) → starved_by end ≡ [] → (k : ℕ) → k < end.lines → FaultsExactly fs begun (turn (script_by commands maps end) k)
 
--- The first n commands have been run, and their transcript is on the screen.
-pub record Reached {F K : Type 0} (fs : FilesOf F) (sk : SinkOf K) (commands : List (List ℕ)) (begun : F) (opened : K) (n : ℕ) (run : Run) (files : F) (screen : K) : Type 0 where
+-- The session is the machine's over its commands, which are the words and the lines of the input.
+pub record IsSession {F S K : Type 0} (fs : FilesOf F) (src : SourceOf S) (sk : SinkOf K) (words : List (List ℕ)) (begun : F) (was : S) (opened : K) (end : SessionEnd) (files : F) (input : S) (screen : K) : Type 0 where
+  pub commands : List (List ℕ)
+  pub runs : Runs fs sk commands begun opened end files screen
+  pub takes : Takes src words was input commands end.lines end.status (session (script_by commands runs.maps end) end.lines).state.ended
+
+-- The first commands have been run, and their transcript is on the screen.
+pub record Reached {F K : Type 0} (fs : FilesOf F) (sk : SinkOf K) (commands : List (List ℕ)) (begun : F) (opened : K) (run : Run) (files : F) (screen : K) : Type 0 where
   pub maps : Maps
-  pub lines : run.lines ≡ n
   pub follows : Follows fs (script_of commands maps run) begun run.lines run.state run.refused files
   pub counted : Counted fs (script_of commands maps run) begun run.lines files
   pub gained : Gains sk.tells sk.held opened screen (session (script_of commands maps run) run.lines).text
-  pub count : sk.faults screen ≡ sk.faults opened

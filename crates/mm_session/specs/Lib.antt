@@ -1,11 +1,9 @@
 pub mod Advance
 pub mod Calls
-pub mod Command
+pub mod Coming
 pub mod Course
-pub mod Effect
-pub mod Effects
 pub mod Headline
 pub mod Laws
 pub mod Session
-pub mod Texts
-pub mod Verdicts
+pub mod Taken
+pub mod Turns

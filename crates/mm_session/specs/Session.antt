@@ -1,13 +1,19 @@
 -- The session machine over a list of commands.
-use Rattle.std.specs.Prelude.{◌||◌, ◌==◌, ◌+◌, ℕ, suc, zero, Bool, false, List, [], ◌∷◌, ◌++◌, None, if◌then◌else◌, nat_le, length, codes, slice_index_or}
+use Rattle.std.specs.Prelude.{◌||◌, ◌==◌, ◌+◌, ℕ, suc, zero, Bool, false, List, [], ◌∷◌, ◌++◌, Option, None, Some, if◌then◌else◌, nat_le, length, codes, slice_index_or}
 use Rattle.std.specs.List.{list_any}
 use Rattle.mm_base.specs.Files.{Map}
-use Rattle.mm_session.specs.declared.state.State.{State}
-use Rattle.mm_session.specs.Effect.{Effect, Outcome, Fine, Starved, Faulted, ended, with_puts, add_put}
-use Rattle.mm_session.specs.Effects.{step_of}
+use Rattle.mm_effects.specs.declared.state.Hand.{Hand}
+use Rattle.mm_effects.specs.declared.state.State.{State}
+use Rattle.mm_effects.specs.Effect.{Effect, Outcome, Fine, Starved, Faulted, ended, with_puts, add_put}
+use Rattle.mm_effects.specs.Effects.{step_of}
 
+abbrev pub prompt_by : Option Hand → List ℕ
+prompt_by None = codes "MM> "
+prompt_by (Some hand) = codes "MM-PA> "
+
+-- the prompt tells whether a proof is in hand
 abbrev pub prompt : State → List ℕ
-prompt state = codes "MM> "
+prompt state = prompt_by state.hand
 
 -- a line as it is echoed: one of more than 65,536 bytes as empty
 abbrev pub shown : List ℕ → List ℕ
@@ -80,7 +86,7 @@ after t = after_effect t.machine t.line (ended t.outcome t.machine.state (effect
 
 -- the state in which a session begins
 abbrev pub fresh : State
-fresh = record { database = None }
+fresh = record { database = None; hand = None; unwritten = false; ended = false }
 
 abbrev pub start : Machine
 start = record { state = fresh; puts = []; text = []; refused = false; calls = 0 }

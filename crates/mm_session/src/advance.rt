@@ -1,10 +1,10 @@
 ghost use Rattle.std.specs.Prelude.{◌≡◌, ◌+◌, ◌<◌, IsTrue};
-ghost use Rattle.mm_session.specs.Advance.{Advances};
+ghost use Rattle.mm_effects.specs.Sound.{IsSound};
+ghost use Rattle.mm_session.specs.Advance.{Advances, IsLine};
 
-use crate::reply::Reply;
 use crate::run::Run;
-use crate::step::step;
 use mm_base::Files;
+use mm_effects::{Reply, step};
 use std::alloc::Global;
 
 /// What has become of a command in its session.
@@ -20,9 +20,10 @@ pub enum Progress {
 
 /// Runs the next command.
 pub fn advance<F: Files>(alloc: Global, run: &mut Run, files: &mut F, line: &[u8]) -> Progress
-    requires { run.old.lines + 1 < 18446744073709551616 }
+    requires fits { run.old.lines + 1 < 18446744073709551616 }
+    requires sound { IsSound run.old.state }
     ensures lines { run.new.lines ≡ run.old.lines + 1 }
-    ensures goes { (commands : _) (maps : _) (begun : _) → Advances ⟦<F as Files>⟧ commands maps begun run.old files.old line.now result run.new files.new }
+    ensures goes { (whole : _) (commands : _) (maps : _) (begun : _) → IsLine line.now whole → Advances ⟦<F as Files>⟧ commands maps begun run.old files.old whole result run.new files.new }
 {
     run.lines += 1;
     match step(alloc, &mut run.state, files, line) {

@@ -1,11 +1,11 @@
 ghost use Rattle.std.specs.Prelude.{◌≡◌, List, ℕ, take};
-ghost use Rattle.mm_session.specs.Command.{command_of};
+ghost use Rattle.mm_effects.specs.Asked.{asked_of};
 ghost use Rattle.mm_session.specs.Session.{shown};
-ghost use Rattle.mm_session.specs.Laws.{SaysAccepted, AcceptedIsSaid, DatabaseIsSound, ReadIsWhole};
+ghost use Rattle.mm_session.specs.Laws.{SaysAccepted, AcceptedIsSaid, SessionIsSound, ReadIsWhole};
 
 /// Of a line that is too long, its first 65,537 bytes are as good as all of it.
 pub fn kept_is_enough()
-    ensures meaning { (line : List ℕ) → command_of (take 65537 line) ≡ command_of line }
+    ensures meaning { (line : List ℕ) → asked_of (take 65537 line) ≡ asked_of line }
     ensures echo { (line : List ℕ) → shown (take 65537 line) ≡ shown line }
 {}
 
@@ -15,8 +15,13 @@ pub fn accepted_is_proved()
     ensures said { AcceptedIsSaid }
 {}
 
+/// After any number of commands the database was read without a fault, and a proof in hand is valid for its theorem: each
+/// known step is an instance of the statement that it names.
+pub fn proofs_in_hand_are_valid()
+    ensures { SessionIsSound }
+{}
+
 /// What is read is the whole of a file that has no fault.
 pub fn read_is_whole()
-    ensures read { ReadIsWhole }
-    ensures sound { DatabaseIsSound }
+    ensures { ReadIsWhole }
 {}

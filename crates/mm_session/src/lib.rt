@@ -2,22 +2,15 @@
 #![tactic(auto)]
 
 mod advance;
-mod command;
+mod commands;
 mod law;
-mod read;
-mod refusal;
-mod reply;
 mod run;
 mod session;
 mod show;
-mod state;
-mod step;
-mod text;
-mod verdict;
-mod verify;
+mod turn;
 mod word;
 
-pub use law::{accepted_is_proved, kept_is_enough, read_is_whole};
+pub use law::{accepted_is_proved, kept_is_enough, proofs_in_hand_are_valid, read_is_whole};
 pub use session::{SessionEnd, run_session};
 pub use word::Word;
 

@@ -1,5 +1,8 @@
-use crate::state::State;
+ghost use Rattle.std.specs.Prelude.{◌≡◌, [], false};
+ghost use Rattle.mm_session.specs.Session.{fresh};
+
 use arrayvec::ArrayVec;
+use mm_effects::State;
 
 /// How far a session has come.
 #[derive(Drop)]
@@ -13,4 +16,28 @@ pub struct Run {
     pub starved: ArrayVec<u64, 64>,
     /// The numbers of the commands whose call on the files failed.
     pub faulted: ArrayVec<u64, 64>,
+}
+
+impl Run {
+    /// Nothing has been run.
+    pub fn new() -> Run
+        ensures state { result.state ≡ fresh }
+        ensures lines { result.lines ≡ 0 }
+        ensures refused { result.refused ≡ false }
+        ensures starved { result.starved.items ≡ [] }
+        ensures faulted { result.faulted.items ≡ [] }
+    {
+        Run {
+            state: State {
+                database: None,
+                hand: None,
+                unwritten: false,
+                ended: false,
+            },
+            lines: 0,
+            refused: false,
+            starved: ArrayVec::new(),
+            faulted: ArrayVec::new(),
+        }
+    }
 }

@@ -1,21 +1,21 @@
-ghost use Rattle.std.specs.Prelude.{◌≡◌, ◌≢◌, ◌≤◌, [], ◌∷◌, length, Contains};
+ghost use Rattle.std.specs.Prelude.{◌≡◌, ◌≢◌};
 ghost use Rattle.mm_base.specs.Outside.{RoseBy};
-ghost use Rattle.mm_session.specs.Headline.{IsSession, end_status};
+ghost use Rattle.mm_session.specs.Headline.{IsSession};
 
-use crate::advance::{Progress, advance};
+use crate::commands::Commands;
 use crate::run::Run;
-use crate::show::{announce, finish, show};
-use crate::state::State;
+use crate::turn::{Turn, take_turn};
 use crate::word::Word;
 use arrayvec::ArrayVec;
-use mm_base::{Files, Sink};
+use mm_base::{Files, Sink, Source};
 use std::alloc::Global;
 
 /// How a session has ended.
 #[derive(Drop)]
 pub struct SessionEnd {
-    /// 0: every command was run. 1: so too, and some command was refused. 4: the screen failed.
-    /// 5: a 65th command found no memory. 6: a 65th command's call on the files failed.
+    /// 0: the input or EXIT has ended it. 1: so too, and some command was refused. 3: the input failed.
+    /// 4: the screen failed. 5: a 65th command found no memory, or there was none to begin with.
+    /// 6: a 65th command's call on the files failed. 7: 4,294,967,296 bytes of input were taken.
     pub status: u8,
     /// How many commands were run.
     pub lines: u64,
@@ -25,59 +25,36 @@ pub struct SessionEnd {
     pub faulted: ArrayVec<u64, 64>,
 }
 
-/// Runs the words as commands, one after another, and writes the prompt, the command and its
-/// text for each.
-pub fn run_session<F: Files, K: Sink>(
+/// Runs commands one after another: the words, and then the lines of the input, up to EXIT or the end of the input.
+///
+/// Before each it writes the prompt, and only then reads a line. It writes the line and its text behind.
+pub fn run_session<F: Files, S: Source, K: Sink>(
     alloc: Global,
     words: &[Word],
     files: &mut F,
+    input: &mut S,
     screen: &mut K,
 ) -> SessionEnd
-    ensures statuses { Contains (0 ∷ 1 ∷ 4 ∷ 5 ∷ 6 ∷ []) result.status }
-    ensures lines { result.lines ≤ length words.now }
-
     // The session is the machine's, over the maps that its commands met.
-    ensures session { IsSession ⟦<F as Files>⟧ ⟦<K as Sink>⟧ words.now files.old screen.old result files.new screen.new }
+    ensures session { IsSession ⟦<F as Files>⟧ ⟦<S as Source>⟧ ⟦<K as Sink>⟧ words.now files.old input.old screen.old result files.new input.new screen.new }
 
     // Why it ended.
+    ensures input_failed { result.status ≡ 3 → RoseBy 1 (S.faults input.old) (S.faults input.new) }
+    ensures input_held { result.status ≢ 3 → S.faults input.new ≡ S.faults input.old }
     ensures screen_failed { result.status ≡ 4 → RoseBy 1 (K.faults screen.old) (K.faults screen.new) }
     ensures screen_held { result.status ≢ 4 → K.faults screen.new ≡ K.faults screen.old }
-    ensures starving { result.status ≡ 5 → length result.starved.items ≡ 64 }
-    ensures faulting { result.status ≡ 6 → length result.faulted.items ≡ 64 }
 {
-    let mut run = Run {
-        state: State { database: None },
-        lines: 0,
-        refused: false,
-        starved: ArrayVec::new(),
-        faulted: ArrayVec::new(),
+    let mut run = Run::new();
+    let mut commands = match Commands::new(alloc, words) {
+        Ok(commands) => commands,
+        Err(_) => return ended(run, 5),
     };
-    for word in words {
-        let line = word.bytes();
-        if announce(screen, &run.state, line).is_err() {
-            return ended(run, 4);
-        }
-        match advance(alloc, &mut run, files, line) {
-            Progress::Starved => return ended(run, 5),
-            Progress::Faulted => return ended(run, 6),
-            Progress::Replied(reply) => {
-                if show(screen, &reply).is_err() {
-                    return ended(run, 4);
-                }
-            }
+    loop {
+        match take_turn(alloc, &mut commands, &mut run, files, input, screen) {
+            Turn::GoesOn => {}
+            Turn::Ended(status) => return ended(run, status),
         }
     }
-    if finish(screen, &run.state).is_err() {
-        return ended(run, 4);
-    }
-    let status = end_status(run.refused);
-    ended(run, status)
-}
-
-fn end_status(refused: bool) -> u8
-    ensures { result ≡ end_status refused }
-{
-    if refused { 1 } else { 0 }
 }
 
 fn ended(run: Run, status: u8) -> SessionEnd

@@ -1,14 +1,16 @@
-//! The program `mmpa`: a session over real files and the real screen.
+//! The program `mmpa`: a session over real files, the real input and the real screen.
 #![tactic(auto)]
 
 mod arguments;
 mod files;
+mod input;
 mod screen;
 #[cfg(test)]
 mod tests;
 
 use arguments::{Arguments, read_arguments};
 use files::RealFiles;
+use input::RealInput;
 use mm_session::run_session;
 use screen::Screen;
 use std::process::ExitCode;
@@ -19,12 +21,19 @@ usage: mmpa [COMMAND ..]
 
 Each COMMAND is one word of the command line, as in
     mmpa \"READ demo0.mm\" \"VERIFY PROOF th1\"
+Then the lines of the input are commands, up to EXIT or its end.
 
-READ FILE            reads a database
-VERIFY PROOF LABEL   verifies one proof
+READ FILE             reads a database
+VERIFY PROOF LABEL    verifies one proof
+PROVE LABEL           takes a proof in hand
+SAVE NEW_PROOF        saves it into the database
+WRITE SOURCE FILE     writes the database
+EXIT                  leaves the proof in hand, or ends the session
 
-The status is 0 where all went well, 1 where a command was refused, 4 where the
-screen failed, 5 where memory ran out and 6 where files failed too often.
+Keywords have no case and may be shortened. The status is 0 where all went well,
+1 where a command was refused, 3 where the input failed, 4 where the screen
+failed, 5 where memory ran out, 6 where files failed too often and 7 where the
+input is too long.
 ";
 
 const VERSION: &str = "mmpa 0.1.0\n";
@@ -45,8 +54,9 @@ fn main(rt: HostRuntime) -> ExitCode {
         }
         Arguments::Words(words) => {
             let mut files = RealFiles::new(&rt);
+            let mut input = RealInput::new(rt.reader());
             let mut screen = Screen::new(&rt);
-            let end = run_session(rt.alloc(), &words, &mut files, &mut screen);
+            let end = run_session(rt.alloc(), &words, &mut files, &mut input, &mut screen);
             ExitCode::from(end.status)
         }
     }

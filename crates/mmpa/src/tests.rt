@@ -1,11 +1,12 @@
-//! The adapters over the real files and over a screen that fails.
+//! The adapters over the real files, over an input and over a screen that fail.
 
 use crate::files::RealFiles;
+use crate::input::RealInput;
 use crate::screen::Screen;
-use mm_base::{Failed, Files, FilesFault, is_name, write_all};
+use mm_base::{Failed, Files, FilesFault, Source, is_name, write_all};
 use std::fmt::Display;
 use std::fs;
-use std::io::{self, ErrorKind};
+use std::io::{self, ErrorKind, Read};
 use std::test::Fail;
 
 #[test]
@@ -97,5 +98,27 @@ fn a_screen_counts_its_faults(rt: HostRuntime) -> Result<(), Fail> {
     let mut screen = Screen::new(&closed);
     assert_eq!(rt; write_all(&mut screen, b"text"), Err(Failed));
     assert_eq!(rt; screen.faults(), 1);
+    Ok(())
+}
+
+/// An input that can't be read.
+#[derive(Drop)]
+struct Broken {}
+
+impl Read for Broken {
+    fn read(&mut self, _buf: &mut [u8]) -> io::Result<usize> {
+        Err(io::Error::from(ErrorKind::BrokenPipe))
+    }
+}
+
+#[test]
+fn an_input_counts_its_faults(rt: HostRuntime) -> Result<(), Fail> {
+    let mut buf = [0; 4];
+    let mut input = RealInput::new(rt.reader());
+    assert_eq!(rt; input.read(&mut buf), Ok(0));
+    assert_eq!(rt; input.faults(), 0);
+    let mut input = RealInput::new(Broken {});
+    assert_eq!(rt; input.read(&mut buf), Err(Failed));
+    assert_eq!(rt; input.faults(), 1);
     Ok(())
 }

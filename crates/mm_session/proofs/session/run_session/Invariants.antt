@@ -1,5 +1,12 @@
-use Rattle.mm_session.specs.Headline.{Reached}
+use Rattle.std.proofs.Common.{◌≡◌}
+use Rattle.mm_session.specs.Coming.{room}
+use Rattle.mm_session.specs.Turns.{Stands}
 use Rattle.mm_session.proofs.session.run_session.Given as goal
 
-abbrev pub invariant-loop-word : goal.invariant-loop-word
-invariant-loop-word g l = Reached g.F.Files g.K.Sink l.words l.initial.files l.initial.screen l.word-index l.run l.files l.screen
+abbrev pub invariant-loop-status : goal.invariant-loop-status
+invariant-loop-status g l =
+    Stands g.F.Files g.S.Source g.K.Sink l.words l.initial.files l.initial.input l.initial.screen l.commands l.run l.files l.input l.screen
+    × (g.S.Source.faults l.input ≡ g.S.Source.faults l.initial.input) × (g.K.Sink.faults l.screen ≡ g.K.Sink.faults l.initial.screen)
+
+abbrev pub decreases-loop-status : goal.decreases-loop-status
+decreases-loop-status g l = room l.commands

@@ -1,0 +1,12 @@
+pub mod Asked
+pub mod Calls
+pub mod Counts
+pub mod Effect
+pub mod Effects
+pub mod Groups
+pub mod Opened
+pub mod Ran
+pub mod Sound
+pub mod Texts
+pub mod Verdicts
+pub mod Writes

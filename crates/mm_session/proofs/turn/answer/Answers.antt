@@ -1,0 +1,76 @@
+use Rattle.std.proofs.Common.{◌≡◌, ◌+◌, ℕ, suc, refl, arith}
+use Rattle.mm_session.specs.Turns.{Unechoed, Untold, GivenUp, Exits}
+use Rattle.mm_session.proofs.HeadlineLemmas.{err_gives, ok_gives, cut_at_echo, cut_at_text, gives_up_starved, gives_up_faulted, reaches, exits}
+use Rattle.mm_session.proofs.turn.answer.Goals as goal
+
+one_more : (n m : ℕ) → n ≡ m + 1 → n ≡ suc m
+one_more n m e = omega (arith, e)
+
+pub returns-then-is_err-clause-answers : goal.returns-then-is_err-clause-answers
+returns-then-is_err-clause-answers g c = λ commands begun opened whole p h. (
+  Unechoed refl refl,
+  record {
+    runs = cut_at_echo g.F.Files g.K.Sink commands begun opened c.args.run.now c.args.files.now c.args.screen.now c.echo.new.screen c.args.line.now whole p h
+        (err_gives c.echo.result c.is_err.result c.if-is_err.true c.is_err.ensures.value c.echo.ensures.err);
+    state = λ lt. absurd (omega (arith, lt));
+  },
+)
+
+pub returns-then-is_err-2-clause-answers : goal.returns-then-is_err-2-clause-answers
+returns-then-is_err-2-clause-answers g c = λ commands begun opened whole p h. (
+  Untold refl c.in-Replied.ensures.lines,
+  record {
+    runs = cut_at_text g.F.Files g.K.Sink commands begun opened c.args.run.now c.advance.new.run c.args.files.now c.advance.new.files c.args.screen.now c.echo.new.screen c.show.new.screen c.args.line.now whole c.in-Replied.reply p h
+        (ok_gives c.echo.result c.is_err.result c.if-is_err.false c.is_err.ensures.value c.echo.ensures.ok)
+        (one_more c.advance.new.run.lines c.args.run.now.lines c.in-Replied.ensures.lines)
+        (c.in-Replied.ensures.goes whole commands p.reached.maps begun h.is_line p.reached.follows h.at h.open_still)
+        (err_gives c.show.result c.is_err-in-Replied.result c.if-is_err-2.true c.is_err-in-Replied.ensures.value c.show.ensures.err);
+    state = λ lt. absurd (omega (arith, lt));
+  },
+)
+
+pub returns-in-Starved-clause-answers : goal.returns-in-Starved-clause-answers
+returns-in-Starved-clause-answers g c = λ commands begun opened whole p h.
+    let goes = c.in-Starved.ensures.goes whole commands p.reached.maps begun h.is_line p.reached.follows h.at h.open_still in (
+      GivenUp (omega arith) (omega arith) c.in-Starved.ensures.lines,
+      record {
+        runs = gives_up_starved g.F.Files g.K.Sink commands begun opened c.args.run.now c.advance.new.run _ c.args.files.now c.advance.new.files c.args.screen.now c.echo.new.screen c.args.line.now whole _ p h
+            (ok_gives c.echo.result c.is_err.result c.if-is_err.false c.is_err.ensures.value c.echo.ensures.ok)
+            (one_more c.advance.new.run.lines c.args.run.now.lines c.in-Starved.ensures.lines) goes.0 goes.1;
+        state = λ lt. absurd (omega (arith, lt));
+      },
+    )
+
+pub returns-in-Faulted-clause-answers : goal.returns-in-Faulted-clause-answers
+returns-in-Faulted-clause-answers g c = λ commands begun opened whole p h.
+    let goes = c.in-Faulted.ensures.goes whole commands p.reached.maps begun h.is_line p.reached.follows h.at h.open_still in (
+      GivenUp (omega arith) (omega arith) c.in-Faulted.ensures.lines,
+      record {
+        runs = gives_up_faulted g.F.Files g.K.Sink commands begun opened c.args.run.now c.advance.new.run _ c.args.files.now c.advance.new.files c.args.screen.now c.echo.new.screen c.args.line.now whole _ p h
+            (ok_gives c.echo.result c.is_err.result c.if-is_err.false c.is_err.ensures.value c.echo.ensures.ok)
+            (one_more c.advance.new.run.lines c.args.run.now.lines c.in-Faulted.ensures.lines) goes.0 goes.1;
+        state = λ lt. absurd (omega (arith, lt));
+      },
+    )
+
+pub returns-then-run-clause-answers : goal.returns-then-run-clause-answers
+returns-then-run-clause-answers g c = λ commands begun opened whole p h. (
+  Exits c.end_status.ensures c.if-run.true c.in-Replied.ensures.lines,
+  exits g.F.Files g.K.Sink commands begun opened c.advance.new.run c.advance.new.files c.show.new.screen c.end_status.result c.end_status.ensures c.if-run.true
+      (reaches g.F.Files g.K.Sink commands begun opened c.args.run.now c.advance.new.run c.args.files.now c.advance.new.files c.args.screen.now c.echo.new.screen c.show.new.screen c.args.line.now whole c.in-Replied.reply p h
+      (ok_gives c.echo.result c.is_err.result c.if-is_err.false c.is_err.ensures.value c.echo.ensures.ok)
+      (one_more c.advance.new.run.lines c.args.run.now.lines c.in-Replied.ensures.lines)
+      (c.in-Replied.ensures.goes whole commands p.reached.maps begun h.is_line p.reached.follows h.at h.open_still)
+      (ok_gives c.show.result c.is_err-in-Replied.result c.if-is_err-2.false c.is_err-in-Replied.ensures.value c.show.ensures.ok)),
+)
+
+pub returns-else-run-clause-answers : goal.returns-else-run-clause-answers
+returns-else-run-clause-answers g c = λ commands begun opened whole p h. record {
+  reached = reaches g.F.Files g.K.Sink commands begun opened c.args.run.now c.advance.new.run c.args.files.now c.advance.new.files c.args.screen.now c.echo.new.screen c.show.new.screen c.args.line.now whole c.in-Replied.reply p h
+      (ok_gives c.echo.result c.is_err.result c.if-is_err.false c.is_err.ensures.value c.echo.ensures.ok)
+      (one_more c.advance.new.run.lines c.args.run.now.lines c.in-Replied.ensures.lines)
+      (c.in-Replied.ensures.goes whole commands p.reached.maps begun h.is_line p.reached.follows h.at h.open_still)
+      (ok_gives c.show.result c.is_err-in-Replied.result c.if-is_err-2.false c.is_err-in-Replied.ensures.value c.show.ensures.ok);
+  one_more = c.in-Replied.ensures.lines;
+  open_still = c.if-run.false;
+}
