@@ -73,7 +73,8 @@ fn sixty_four_file_faults_are_told_and_the_next_ends_the_session(
     let end = run_session(alloc, &words, &mut files, &mut input, &mut screen);
     assert_eq!(rt; end.status, 6);
     assert_eq!(rt; end.lines, 65);
-    assert_eq!(rt; end.faulted.as_slice(), &failing[..64]);
+    failing.truncate(64);
+    assert_eq!(rt; end.faulted.as_slice(), failing.as_slice());
     // Prompt, line and text 64 times, then prompt and line.
     assert_eq!(rt; screen.held().len(), 64 * (4 + 10 + 17) + 4 + 10);
     Ok(())

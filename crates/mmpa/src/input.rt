@@ -1,6 +1,6 @@
 //! The real input.
 
-ghost use Rattle.std.specs.Prelude.{◌≡◌, false, []};
+ghost use Rattle.std.specs.Prelude.{◌≡◌, ◌≤◌, false, [], length, IfSome};
 
 use mm_base::{Failed, Source};
 use std::io::{ErrorKind, Read};
@@ -34,15 +34,27 @@ impl<R: Read + Drop> Source for RealInput<R> {
     ghost faults = { λ s. s.faults };
 
     fn read(&mut self, buf: &mut [u8]) -> Result<usize, Failed> {
-        let room = buf.len();
-        for _ in 0..u64::MAX {
-            match self.reader.read(buf) {
-                Ok(count) if count <= room => return Ok(count),
-                Err(error) if error.kind() == ErrorKind::Interrupted => {}
-                _ => break,
+        match attempt(&mut self.reader, buf) {
+            Some(count) => Ok(count),
+            None => {
+                self.faults = self.faults.saturating_add(1);
+                Err(Failed)
             }
         }
-        self.faults = self.faults.saturating_add(1);
-        Err(Failed)
     }
+}
+
+/// Reads once, again where it was interrupted: how many bytes it gave, none where it failed.
+fn attempt<R: Read>(reader: &mut R, buf: &mut [u8]) -> Option<usize>
+    ensures { IfSome result (λ n. n ≤ length buf.old) }
+{
+    let room = buf.len();
+    for _ in 0..u64::MAX {
+        match reader.read(buf) {
+            Ok(count) if count <= room => return Some(count),
+            Err(error) if error.kind() == ErrorKind::Interrupted => {}
+            _ => return None,
+        }
+    }
+    None
 }
