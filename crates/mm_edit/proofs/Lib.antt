@@ -5,3 +5,6 @@ pub mod Last
 pub mod Measures
 pub mod Fitting
 pub mod Outcomes
+pub mod Naming
+pub mod Kept
+pub mod Pending
