@@ -13,13 +13,14 @@ use Rattle.mm_match.specs.declared.matched.Matched.{Matched}
 use Rattle.mm_match.specs.declared.matched.Matched.TheVariants.{Missing, Unique, Several}
 use Rattle.mm_match.specs.Matches.{IsAnswer, IsOnlyMatch}
 use Rattle.mm_edit.specs.Outcome.{Refused, Placed, is_too_long, by_match, by_room, by_step, not_standing, assigned}
+use Rattle.mm_edit.specs.Counts.{pending_count}
 use Rattle.mm_edit.specs.Ways.{matched_of}
 use Rattle.mm_edit.specs.declared.fault.AssignFault.TheVariants.{TooManySteps, TooDeep, TooLong}
 use Rattle.mm_edit.proofs.Ways.{matched-answer}
 use Rattle.mm_edit.proofs.Last.{last-step}
 use Rattle.mm_edit.proofs.Fitting.{match-fits}
 use Rattle.mm_edit.proofs.Naming.{only_named}
-use Rattle.mm_edit.proofs.Pending.{pending_count, pending_stays}
+use Rattle.mm_edit.proofs.Pending.{pending_stays}
 use Rattle.mm_edit.proofs.Outcomes.{same-size, same-height, roomy}
 
 -- where a step is made known by an assignment

@@ -18,15 +18,8 @@ use Rattle.mm_plain.specs.Sources.{is_pending, label_of}
 use Rattle.mm_plain.proofs.Equations.{by_trees, size_of-known, size_of-unknown, steps_of-known, steps_of-unknown, put-unknown}
 use Rattle.mm_plain.proofs.Read.{label_of-known, is_pending-known, is_pending-unknown}
 use Rattle.mm_plain.proofs.Trees.{seat-in, at-kid, at-root, at-leaf, put-in, put-root, put_kids-here, put_kids-later, seat-here, seat-later}
+use Rattle.mm_edit.specs.Counts.{pending_count, unknown_count}
 use Rattle.mm_edit.proofs.Tests.{is_string-itself}
-
--- the known steps whose target is not their source
-unfoldable pub pending_count : List ℕ → Plain → ℕ
-pending_count bytes plain = count_by (is_pending bytes) (steps_of plain)
-
--- the steps that name no statement
-unfoldable pub unknown_count : Plain → ℕ
-unknown_count plain = count_by (λ x. is_none (label_of x)) (steps_of plain)
 
 abbrev one_for : Bool → ℕ
 one_for b = if b then 1 else 0

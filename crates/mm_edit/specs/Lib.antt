@@ -1,3 +1,4 @@
 pub mod Ways
 pub mod Outcome
 pub mod Faults
+pub mod Counts

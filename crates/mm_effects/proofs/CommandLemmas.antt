@@ -1,16 +1,16 @@
 -- Which commands are not built yet.
-use Rattle.std.proofs.Common.{◌≡◌, ◌≢◌, ◌<◌, ◌≤◌, ℕ, Bool, false, List, Ok, Err, Bor, length, refl, sym, ◌∙◌, ap, arith, nat_lt}
+use Rattle.std.proofs.Common.{◌≡◌, ◌≢◌, ◌<◌, ◌≤◌, ℕ, Bool, false, List, Ok, Err, Bor, length, refl, ◌∙◌, ap, arith, nat_lt}
 use Rattle.std.proofs.lemmas.Bool.{lt-ltb}
 use Rattle.std.proofs.lemmas.Bool.Decides.{nat_tests}
 use Rattle.mm_base.specs.Files.{Map}
 use Rattle.mm_command.specs.declared.fault.LineFault.{LineFault}
+use Rattle.mm_command.specs.declared.command.StepWord.{StepWord}
 use Rattle.mm_command.specs.declared.command.Command.{Command}
 use Rattle.mm_command.specs.declared.command.Command.TheVariants as command
 use Rattle.mm_command.specs.Meanings.{meaning_of}
 use Rattle.mm_command.specs.Spelled.{spelled}
 use Rattle.mm_command.specs.Table.{line_said}
 use Rattle.mm_command.proofs.MeaningLemmas.{meaning_back}
-use Rattle.mm_effects.specs.declared.group.Group.{Group}
 use Rattle.mm_effects.specs.declared.group.Group.TheVariants as group
 use Rattle.mm_effects.specs.declared.state.State.{State}
 use Rattle.mm_effects.specs.Groups.{group_of}
@@ -28,6 +28,7 @@ database_not_built (command.WriteSource file) own read verify write s map = absu
 database_not_built command.Nothing own read verify write s map = cc
 database_not_built (command.Prove label guarded_too) own read verify write s map = cc
 database_not_built (command.Exit force) own read verify write s map = cc
+database_not_built (command.Assign step label guarded_too) own read verify write s map = cc
 database_not_built (command.Save normal compressed guarded_too) own read verify write s map = cc
 database_not_built _ own read verify write s map = refl
 
@@ -41,19 +42,34 @@ session_not_built (command.Save normal compressed guarded_too) own nothing prove
 session_not_built (command.Read file) own nothing prove exit save s map = cc
 session_not_built (command.VerifyProof pattern) own nothing prove exit save s map = cc
 session_not_built (command.WriteSource file) own nothing prove exit save s map = cc
+session_not_built (command.Assign step label guarded_too) own nothing prove exit save s map = cc
 session_not_built _ own nothing prove exit save s map = refl
 
--- of the other groups none is
-pub group_not_built : (c : Command) (g : Group) → group_of (meaning_of c) ≡ g → g ≢ group.Database → g ≢ group.Session → (s : State) (map : Map) → command_effect (meaning_of c) s map ≡ quiet (fixed_refusal not_built_text s)
+pub edit_not_built : (c : Command) → group_of (meaning_of c) ≡ group.Edits → ((step : StepWord) (label : Bor (List ℕ)) (guarded_too : Bool) → c ≢ command.Assign step label guarded_too)
+    → (s : State) (map : Map) → command_effect (meaning_of c) s map ≡ quiet (fixed_refusal not_built_text s)
 unfolding command_effect
-group_not_built (command.Read file) g is database session s map = absurd (database (sym is))
-group_not_built (command.VerifyProof pattern) g is database session s map = absurd (database (sym is))
-group_not_built (command.WriteSource file) g is database session s map = absurd (database (sym is))
-group_not_built command.Nothing g is database session s map = absurd (session (sym is))
-group_not_built (command.Prove label guarded_too) g is database session s map = absurd (session (sym is))
-group_not_built (command.Exit force) g is database session s map = absurd (session (sym is))
-group_not_built (command.Save normal compressed guarded_too) g is database session s map = absurd (session (sym is))
-group_not_built _ g is database session s map = refl
+edit_not_built (command.Assign step label guarded_too) own assign s map = absurd (assign step label guarded_too refl)
+edit_not_built (command.Read file) own assign s map = cc
+edit_not_built (command.VerifyProof pattern) own assign s map = cc
+edit_not_built (command.WriteSource file) own assign s map = cc
+edit_not_built command.Nothing own assign s map = cc
+edit_not_built (command.Prove label guarded_too) own assign s map = cc
+edit_not_built (command.Exit force) own assign s map = cc
+edit_not_built (command.Save normal compressed guarded_too) own assign s map = cc
+edit_not_built _ own assign s map = refl
+
+-- of the settings none is
+pub setting_not_built : (c : Command) → group_of (meaning_of c) ≡ group.Settings → (s : State) (map : Map) → command_effect (meaning_of c) s map ≡ quiet (fixed_refusal not_built_text s)
+unfolding command_effect
+setting_not_built (command.Read file) own s map = cc
+setting_not_built (command.VerifyProof pattern) own s map = cc
+setting_not_built (command.WriteSource file) own s map = cc
+setting_not_built command.Nothing own s map = cc
+setting_not_built (command.Prove label guarded_too) own s map = cc
+setting_not_built (command.Exit force) own s map = cc
+setting_not_built (command.Save normal compressed guarded_too) own s map = cc
+setting_not_built (command.Assign step label guarded_too) own s map = cc
+setting_not_built _ own s map = refl
 
 -- what a line asks
 

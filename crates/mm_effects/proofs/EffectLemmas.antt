@@ -69,7 +69,7 @@ bytes_put : (s : State) (bytes : List ℕ) (r : Result (List Event) ReadFault) �
 bytes_put s bytes (Ok past) = refl
 bytes_put s bytes (Err e) = refl
 
-read_put : (s : State) (name : List ℕ) (found : Option (List ℕ)) → (read_found s name found).put ≡ None
+pub read_put : (s : State) (name : List ℕ) (found : Option (List ℕ)) → (read_found s name found).put ≡ None
 read_put s name None = refl
 read_put s name (Some bytes) = bytes_put s bytes (database_of bytes)
 

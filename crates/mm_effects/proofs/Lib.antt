@@ -3,4 +3,7 @@ mod CommandLemmas
 pub mod NameLemmas
 mod ProveLemmas
 mod SaveLemmas
+mod AssignLemmas
 pub mod SoundLemmas
+mod CompleteLemmas
+pub mod SavesLemmas

@@ -11,7 +11,8 @@ use Rattle.mm_tree.specs.Trees as trees
 use Rattle.mm_effects.specs.declared.state.State.{State}
 use Rattle.mm_effects.specs.declared.reply.Reply.{Reply}
 use Rattle.mm_effects.specs.declared.reply.Reply.TheVariants as reply
-use Rattle.mm_effects.specs.Counts.{counts_text, numbers_text, unknown_count, pending_count}
+use Rattle.mm_edit.specs.Counts.{unknown_count, pending_count}
+use Rattle.mm_effects.specs.Counts.{counts_text, numbers_text}
 use Rattle.mm_effects.specs.Effect.{Did}
 use Rattle.mm_effects.specs.Effects.{is_closed, prove_theorem, prove_found, prove_with}
 use Rattle.mm_effects.specs.Opened.{is_unproved}

@@ -24,14 +24,20 @@ use Rattle.mm_save.proofs.Moving.{valid_moved}
 use Rattle.mm_save.proofs.Saves.{saved_keeps, saved_agrees}
 use Rattle.mm_forms.proofs.Forms.{string_of_statement}
 use Rattle.mm_stack.specs.Decoding.{is_compressed}
-use Rattle.mm_command.specs.Meanings.{Meaning, Nothing, Read, VerifyProof, WriteSource, Prove, Exit, Save}
+use Rattle.mm_command.specs.declared.command.StepWord.{StepWord}
+use Rattle.mm_command.specs.declared.command.StepWord.TheVariants.{Last}
+use Rattle.mm_command.specs.Meanings.{Meaning, Nothing, Read, VerifyProof, WriteSource, Prove, Assign, Exit, Save}
 use Rattle.mm_effects.specs.declared.state.State.{State}
 use Rattle.mm_effects.specs.declared.state.Hand.{Hand}
 use Rattle.mm_effects.specs.Asked.{Asked, TooLong, Wrong, Asks, is_pattern}
 use Rattle.mm_effects.specs.Effect.{Quiet, Outcome, Fine, Starved, Faulted, Effect, ended}
-use Rattle.mm_effects.specs.Effects.{fixed_refusal, refusal, answer, silent, with_saved, save_answer, save_known, save_open, save_with, save_effect, read_bytes, read_found, read_with, read_effect, verify_proof, verify_kind, verify_found, verify_with, verify_effect, write_effect, prove_unproved, is_closed, prove_theorem, prove_kind, prove_found, prove_with, prove_effect, exit_effect, command_effect, asked_effect}
+use Rattle.mm_effects.specs.Effects.{fixed_refusal, refusal, answer, silent, with_saved, save_answer, save_known, save_open, save_with, save_effect, assign_with, assign_effect, read_bytes, read_found, read_with, read_effect, verify_proof, verify_kind, verify_found, verify_with, verify_effect, write_effect, prove_unproved, is_closed, prove_theorem, prove_kind, prove_found, prove_with, prove_effect, exit_effect, command_effect, asked_effect}
 use Rattle.mm_effects.specs.Texts.{not_built_text, guarded_text, long_text, save_text, not_saved_text, not_written_text}
 use Rattle.mm_effects.specs.Opened.{begun, is_unproved}
+use Rattle.mm_edit.specs.Outcome as assigning
+use Rattle.mm_edit.specs.Outcome.{assigned}
+use Rattle.mm_effects.specs.Edits.{Edit, refuse, assign_outcome, is_forbidden, assign_found, assign_label}
+use Rattle.mm_edit.proofs.Kept.{valid_after}
 use Rattle.mm_effects.specs.Sound.{IsHeld, AreSound, IsSound, StaysSound}
 
 -- either of two
@@ -93,7 +99,7 @@ with_still : (s : State) (database : Option (List ℕ)) (label : List ℕ) → (
 with_still s None label = refl
 with_still s (Some bytes) label = found_still s label bytes (find_label bytes label)
 
-verify_still : (s : State) (pattern : List ℕ) → (verify_effect s pattern).state ≡ s
+pub verify_still : (s : State) (pattern : List ℕ) → (verify_effect s pattern).state ≡ s
 verify_still s pattern = either (λ q. q.state ≡ s) (is_pattern pattern) (fixed_refusal not_built_text s) (verify_with s s.database pattern) refl (with_still s s.database pattern)
 
 -- ## WRITE SOURCE
@@ -187,6 +193,37 @@ save_sound : (s : State) (normal compressed guarded_too : Bool) → IsSound s �
 save_sound s normal compressed guarded_too h =
     either (λ q. IsSound q.state) (normal || compressed) (fixed_refusal not_built_text s) (save_with s s.database s.hand guarded_too) h (saved_sound s s.database s.hand guarded_too refl refl h)
 
+-- ## ASSIGN LAST
+
+either_edit : (P : Edit → Type 0) (b : Bool) (d e : Edit) → P d → P e → P (if b then d else e)
+either_edit P true d e p q = p
+either_edit P false d e p q = q
+
+outcome_held : (bytes : List ℕ) (hand : Hand) (label : List ℕ) (id : ℕ) (o : assigning.Outcome) → assigned bytes hand.theorem.0 hand.tree.proof id ≡ o → IsHeld bytes hand → IsHeld bytes (assign_outcome bytes hand label id o).hand
+outcome_held bytes hand label id (assigning.Refused fault) e h = h
+outcome_held bytes hand label id (assigning.Placed k sigma) e h = record {
+  own = h.own;
+  theorem = h.theorem;
+  valid = valid_after bytes hand.theorem.0 (statement_of bytes hand.theorem.0) hand.tree.proof id k sigma e h.valid;
+}
+
+assign_held : (bytes : List ℕ) (hand : Hand) (label : List ℕ) (guarded_too : Bool) (found : Option ℕ) → IsHeld bytes hand → IsHeld bytes (assign_found bytes hand label guarded_too found).hand
+assign_held bytes hand label guarded_too None h = h
+assign_held bytes hand label guarded_too (Some id) h =
+    either_edit (λ e. IsHeld bytes e.hand) (is_forbidden guarded_too bytes id) (refuse (guarded_text label) hand) (assign_outcome bytes hand label id (assigned bytes hand.theorem.0 hand.tree.proof id)) h
+    (outcome_held bytes hand label id (assigned bytes hand.theorem.0 hand.tree.proof id) refl h)
+
+assign_with_sound : (s : State) (database : Option (List ℕ)) (held : Option Hand) (label : List ℕ) (guarded_too : Bool) → s.database ≡ database → s.hand ≡ held → IsSound s → IsSound (assign_with s database held label guarded_too).state
+assign_with_sound s (Some bytes) (Some hand) label guarded_too is in_hand h =
+    let k : (is_read bytes ≡ true) × IsHeld bytes hand = held_of s bytes hand is in_hand h in
+    subst (λ (d : Option (List ℕ)). AreSound d (Some (assign_label bytes hand label guarded_too).hand)) (sym is) (k.0, assign_held bytes hand label guarded_too (find_label bytes label) k.1)
+assign_with_sound s (Some bytes) None label guarded_too is in_hand h = h
+assign_with_sound s None held label guarded_too is in_hand h = h
+
+assign_sound : (s : State) (step : StepWord) (label : List ℕ) (guarded_too : Bool) → IsSound s → IsSound (assign_effect s step label guarded_too).state
+assign_sound s Last label guarded_too h = assign_with_sound s s.database s.hand label guarded_too refl refl h
+assign_sound s step label guarded_too h = h
+
 -- ## EXIT
 
 exit_sound : (s : State) (held : Option Hand) (force : Bool) → IsSound s → IsSound (exit_effect s held force).state
@@ -204,6 +241,7 @@ command_sound (VerifyProof pattern) s map h = subst IsSound (sym (verify_still s
 command_sound (WriteSource name) s map h = write_sound s s.database name h
 command_sound (Prove label guarded_too) s map h = prove_sound s s.hand label guarded_too h
 command_sound (Save normal compressed guarded_too) s map h = save_sound s normal compressed guarded_too h
+command_sound (Assign step label guarded_too) s map h = assign_sound s step label guarded_too h
 command_sound (Exit force) s map h = exit_sound s s.hand force h
 command_sound _ s map h = h
 

@@ -1,18 +1,9 @@
--- How many steps a proof has, and how many are unknown and pending.
-use Rattle.std.specs.Prelude.{ℕ, List, [], ◌∷◌, ◌++◌, codes, count_by}
-use Rattle.std.specs.Option.{is_none}
+-- The line that counts the steps of a proof.
+use Rattle.std.specs.Prelude.{ℕ, List, [], ◌∷◌, ◌++◌, codes}
 use Rattle.std.specs.Fmt.{decimal}
 use Rattle.mm_plain.specs.declared.plain.Plain.{Plain}
-use Rattle.mm_plain.specs.Shape.{size_of, steps_of}
-use Rattle.mm_plain.specs.Sources.{label_of, is_pending}
-
--- the steps that name no statement
-unfoldable pub unknown_count : Plain → ℕ
-unknown_count plain = count_by (λ x. is_none (label_of x)) (steps_of plain)
-
--- the known steps whose target is not their source
-unfoldable pub pending_count : List ℕ → Plain → ℕ
-pending_count bytes plain = count_by (is_pending bytes) (steps_of plain)
+use Rattle.mm_plain.specs.Shape.{size_of}
+use Rattle.mm_edit.specs.Counts.{unknown_count, pending_count}
 
 -- these numbers of steps, of unknown and of pending ones
 unfoldable pub numbers_text : ℕ → ℕ → ℕ → List ℕ

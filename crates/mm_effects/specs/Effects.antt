@@ -17,7 +17,9 @@ use Rattle.mm_save.specs.Saving.{names_pairs, saved}
 use Rattle.mm_subst.specs.Statements.{statement_of}
 use Rattle.mm_stack.specs.Accepting.{verdict_of}
 use Rattle.mm_stack.specs.Decoding.{is_compressed}
-use Rattle.mm_command.specs.Meanings.{Meaning, Nothing, Read, VerifyProof, WriteSource, Prove, Exit, Save}
+use Rattle.mm_command.specs.declared.command.StepWord.{StepWord}
+use Rattle.mm_command.specs.declared.command.StepWord.TheVariants.{Last}
+use Rattle.mm_command.specs.Meanings.{Meaning, Nothing, Read, VerifyProof, WriteSource, Prove, Assign, Exit, Save}
 use Rattle.mm_effects.specs.declared.state.State.{State}
 use Rattle.mm_effects.specs.declared.state.Hand.{Hand}
 use Rattle.mm_effects.specs.declared.reply.Reply.{Reply}
@@ -25,6 +27,7 @@ use Rattle.mm_effects.specs.declared.reply.Reply.TheVariants.{Done, Starved}
 use Rattle.mm_effects.specs.Asked.{Asked, TooLong, Wrong, Asks, asked_of, is_pattern}
 use Rattle.mm_effects.specs.Effect.{Effect, Quiet, quiet, Refuses, Did}
 use Rattle.mm_effects.specs.Texts.{line_fault_text, long_line_text, not_built_text, already_read_text, no_file_text, database_fault_text, read_text, no_database_text, no_statement_text, not_theorem_text, guarded_text, hand_held_text, no_hand_text, long_text, not_unified_text, save_text, not_saved_text, not_written_text, wrote_text}
+use Rattle.mm_effects.specs.Edits.{edited, assign_label}
 use Rattle.mm_effects.specs.Counts.{counts_text, numbers_text}
 use Rattle.mm_effects.specs.Opened.{begun, is_unproved}
 use Rattle.mm_effects.specs.Verdicts.{verdict_text}
@@ -188,6 +191,18 @@ abbrev pub Saves : (State → Quiet) → Hand → Result (List ℕ × List ℕ) 
 Saves does hand (Ok done) = (state : State) → Did (does state) state (Done done.1 false) (with_saved state done.0 hand)
 Saves does hand (Err reply) = (state : State) → Did (does state) state reply state
 
+-- ## ASSIGN LAST
+
+-- where the database and the proof in hand are these
+abbrev pub assign_with : State → Option (List ℕ) → Option Hand → List ℕ → Bool → Quiet
+assign_with state (Some bytes) (Some hand) label guarded_too = edited state (assign_label bytes hand label guarded_too)
+assign_with state database hand label guarded_too = fixed_refusal no_hand_text state
+
+-- of the steps the last unknown one is built
+abbrev pub assign_effect : State → StepWord → List ℕ → Bool → Quiet
+assign_effect state Last label guarded_too = assign_with state state.database state.hand label guarded_too
+assign_effect state step label guarded_too = fixed_refusal not_built_text state
+
 -- ## EXIT
 
 abbrev pub leave_effect : State → Bool → Bool → Quiet
@@ -210,6 +225,7 @@ command_effect (VerifyProof pattern) state map = quiet (verify_effect state patt
 command_effect (WriteSource name) state map = write_effect state state.database name
 command_effect (Prove label guarded_too) state map = quiet (prove_effect state state.hand label guarded_too)
 command_effect (Save normal compressed guarded_too) state map = quiet (save_effect state normal compressed guarded_too)
+command_effect (Assign step label guarded_too) state map = quiet (assign_effect state step label guarded_too)
 command_effect (Exit force) state map = quiet (exit_effect state state.hand force)
 command_effect _ state map = quiet (fixed_refusal not_built_text state)
 

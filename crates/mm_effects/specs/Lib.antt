@@ -1,6 +1,7 @@
 pub mod Asked
 pub mod Calls
 pub mod Counts
+pub mod Edits
 pub mod Effect
 pub mod Effects
 pub mod Groups
@@ -10,3 +11,4 @@ pub mod Sound
 pub mod Texts
 pub mod Verdicts
 pub mod Writes
+pub mod Saves

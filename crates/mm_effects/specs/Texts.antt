@@ -6,6 +6,8 @@ use Rattle.mm_scope.specs.Contents.{labels_of, count_kind}
 use Rattle.mm_command.specs.declared.fault.LineFault.{LineFault}
 use Rattle.mm_scope.specs.Faults.{number_of, place_of}
 use Rattle.mm_scope.specs.declared.fault.ReadFault.{ReadFault}
+use Rattle.mm_edit.specs.declared.fault.AssignFault.{AssignFault}
+use Rattle.mm_edit.specs.declared.fault.AssignFault.TheVariants.{NotEarlier, NotActive, NoStep, TooManySteps, TooDeep, NoMatch, NeedsWork, TooLong, Memory}
 
 abbrev pub line_of : List ℕ → List ℕ
 line_of text = text ++ 10 ∷ []
@@ -88,6 +90,18 @@ file_fault_text = line_of (codes "?C40: file fault")
 
 unfoldable pub memory_text : List ℕ
 memory_text = line_of (codes "?C42: out of memory")
+
+-- why a label is not assigned
+unfoldable pub assign_fault_text : List ℕ → AssignFault → List ℕ
+assign_fault_text label TooManySteps = line_of (codes "?C15: more than 1000000 steps")
+assign_fault_text label TooDeep = line_of (codes "?C16: higher than 2000 steps")
+assign_fault_text label NoStep = line_of (codes "?C17: no such step")
+assign_fault_text label NotEarlier = codes "?C20: " ++ line_of (label ++ codes " is not earlier")
+assign_fault_text label NotActive = codes "?C21: hypothesis " ++ line_of (label ++ codes " is not active")
+assign_fault_text label (NoMatch step) = codes "?C22: step " ++ (decimal step ++ line_of (codes " has no unifier"))
+assign_fault_text label TooLong = long_text
+assign_fault_text label NeedsWork = codes "?C62: label " ++ line_of (label ++ codes " needs work variables")
+assign_fault_text label Memory = memory_text
 
 unfoldable pub not_built_text : List ℕ
 not_built_text = line_of (codes "?C60: not built yet")

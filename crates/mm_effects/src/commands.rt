@@ -4,11 +4,12 @@ ghost use Rattle.mm_command.specs.Meanings.{meaning_of};
 ghost use Rattle.mm_effects.specs.Effect.{is_faulted};
 ghost use Rattle.mm_effects.specs.Effects.{command_effect, step_of};
 ghost use Rattle.mm_effects.specs.Writes.{HasName};
-ghost use Rattle.mm_effects.specs.declared.group.Group.TheVariants.{Database, Session};
+ghost use Rattle.mm_effects.specs.declared.group.Group.TheVariants.{Database, Edits, Session};
 ghost use Rattle.mm_effects.specs.Groups.{group_of};
 ghost use Rattle.mm_effects.specs.Ran.{HasRun};
 ghost use Rattle.mm_effects.specs.Sound.{IsSound};
 
+use crate::assign::assign;
 use crate::exit::exit;
 use crate::group::{Group, group_of};
 use crate::prove::prove;
@@ -56,7 +57,7 @@ fn run<F: Files>(alloc: Global, state: &mut State, files: &mut F, command: Comma
     match group_of(command) {
         Group::Database => run_database(alloc, state, files, command),
         Group::Settings => not_built(alloc),
-        Group::Edits => not_built(alloc),
+        Group::Edits => run_edit(alloc, state, files, command),
         Group::Session => run_session(alloc, state, files, command),
     }
 }
@@ -79,6 +80,30 @@ fn run_database<F: Files>(
         Command::Read { file } => read(alloc, state, files, file),
         Command::VerifyProof { pattern } => verify(alloc, state, pattern),
         Command::WriteSource { file } => write(alloc, state, files, file),
+        _ => not_built(alloc),
+    }
+}
+
+// Runs an edit of the proof in hand: one arm for each.
+#[tactic(auto, unfolding(crate::specs::Effects::command_effect))]
+fn run_edit<F: Files>(
+    alloc: Global,
+    state: &mut State,
+    files: &mut F,
+    command: Command<'_>,
+) -> Reply
+    requires group { group_of (meaning_of command) ≡ Edits }
+    requires sound { IsSound state.old }
+    ensures effect { HasRun ⟦<F as Files>⟧ (λ map. command_effect (meaning_of command.entry) state.old map) state.old files.old result state.new files.new }
+    ensures told { IsTrue (F.tells files.new) → IsTrue (F.tells files.old) }
+    ensures cause { CountsFaults (is_faulted result) (F.faults files.old) (F.faults files.new) }
+{
+    match command {
+        Command::Assign {
+            step,
+            label,
+            guarded_too,
+        } => assign(alloc, state, step, label, guarded_too),
         _ => not_built(alloc),
     }
 }

@@ -1,6 +1,7 @@
 //! What each command does: the state of a session, the commands' effects on it and on the files, and their texts.
 #![tactic(auto)]
 
+mod assign;
 mod commands;
 mod exit;
 mod group;
@@ -18,7 +19,7 @@ mod verify;
 mod write;
 
 pub use commands::{MAX_LINE, step};
-pub use laws::states_stay_sound;
+pub use laws::{saved_theorems_hold, states_stay_sound};
 pub use reply::Reply;
 pub use state::{Hand, State};
 pub use text::Text;

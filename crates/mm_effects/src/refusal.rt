@@ -1,12 +1,14 @@
 //! Refusals, by number.
 
 ghost use Rattle.std.specs.Prelude.{◌≡◌, ◌++◌, IfOk, true};
-ghost use Rattle.mm_effects.specs.Texts.{line_fault_text, long_line_text, no_database_text, already_read_text, no_file_text, database_fault_text, no_statement_text, not_theorem_text, guarded_text, hand_held_text, no_hand_text, long_text, not_unified_text, not_saved_text, not_written_text, not_built_text, line_of};
+ghost use Rattle.mm_effects.specs.Texts.{line_fault_text, long_line_text, no_database_text, already_read_text, no_file_text, database_fault_text, no_statement_text, not_theorem_text, guarded_text, hand_held_text, no_hand_text, assign_fault_text, long_text, not_unified_text, not_saved_text, not_written_text, not_built_text, line_of};
+ghost use Rattle.mm_effects.specs.Edits.{RefusesFault};
 
-use crate::reply::Reply;
+use crate::reply::{Reply, reply_of};
 use crate::text::Text;
 use mm_base::Memory;
 use mm_command::LineFault;
+use mm_edit::AssignFault;
 use mm_scope::ReadFault;
 use std::alloc::Global;
 
@@ -132,6 +134,47 @@ pub fn not_unified(alloc: Global, step: u32) -> Reply
     ensures { result ≡ Reply.Done (not_unified_text step) true }
 {
     refused(Text::numbered(alloc, b"?C32: step ", u64::from(step), b" is not unified\n"))
+}
+
+/// C15, C16, C17, C20, C21, C22, C23 and C62: why a label is not assigned.
+pub fn not_assigned(alloc: Global, label: &[u8], fault: AssignFault) -> Reply
+    ensures { RefusesFault label.now fault result }
+{
+    match fault {
+        AssignFault::Memory => Reply::Starved,
+        _ => reply_of(assign_fault(alloc, label, fault), true),
+    }
+}
+
+#[tactic(auto, unfolding(crate::specs::Texts::assign_fault_text, crate::specs::Texts::long_text, crate::specs::Texts::memory_text))]
+fn assign_fault(alloc: Global, label: &[u8], fault: AssignFault) -> Result<Text, Memory>
+    ensures { IfOk result (λ text. text ≡ assign_fault_text label.now fault) }
+{
+    match fault {
+        AssignFault::TooManySteps => Ok(Text::fixed(alloc, b"?C15: more than 1000000 steps\n")),
+        AssignFault::TooDeep => Ok(Text::fixed(alloc, b"?C16: higher than 2000 steps\n")),
+        AssignFault::NoStep => Ok(Text::fixed(alloc, b"?C17: no such step\n")),
+        AssignFault::NotEarlier => Ok(Text::new(
+            b"?C20: ",
+            joined(alloc, label, b" is not earlier")?,
+        )),
+        AssignFault::NotActive => Ok(Text::new(
+            b"?C21: hypothesis ",
+            joined(alloc, label, b" is not active")?,
+        )),
+        AssignFault::NoMatch(step) => Ok(Text::numbered(
+            alloc,
+            b"?C22: step ",
+            u64::from(step),
+            b" has no unifier\n",
+        )),
+        AssignFault::TooLong => Ok(Text::fixed(alloc, b"?C23: limit: length\n")),
+        AssignFault::NeedsWork => Ok(Text::new(
+            b"?C62: label ",
+            joined(alloc, label, b" needs work variables")?,
+        )),
+        AssignFault::Memory => Ok(Text::fixed(alloc, b"?C42: out of memory\n")),
+    }
 }
 
 /// C36.

@@ -120,3 +120,38 @@ cat $a |- x y $.
 abc $p |- a b c $=
       ? $.
 ";
+
+/// Three theorems, of which the first has no proof yet.
+pub const CHAIN: &[u8] = b"\
+$c |- wff ( -> ) $.
+$v P Q $.
+wp $f wff P $.
+wq $f wff Q $.
+wim $a wff ( P -> Q ) $.
+ax $a |- ( P -> P ) $.
+${
+up.1 $e |- P $.
+up $a |- ( Q -> P ) $.
+$}
+u $p |- ( Q -> ( P -> P ) ) $= ? $.
+t1 $p |- ( Q -> ( P -> P ) ) $= wp wp wim wq wp ax up $.
+t2 $p |- ( P -> ( P -> P ) ) $= wp wp wim wp wp ax up $.
+";
+
+/// The same, where the first theorem's proof was saved.
+pub const CHAIN_PROVED: &[u8] = b"\
+$c |- wff ( -> ) $.
+$v P Q $.
+wp $f wff P $.
+wq $f wff Q $.
+wim $a wff ( P -> Q ) $.
+ax $a |- ( P -> P ) $.
+${
+up.1 $e |- P $.
+up $a |- ( Q -> P ) $.
+$}
+u $p |- ( Q -> ( P -> P ) ) $=
+      wp wp wim wq wp ax up $.
+t1 $p |- ( Q -> ( P -> P ) ) $= wp wp wim wq wp ax up $.
+t2 $p |- ( P -> ( P -> P ) ) $= wp wp wim wp wp ax up $.
+";

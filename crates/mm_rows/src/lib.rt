@@ -2,12 +2,18 @@
 #![tactic(auto)]
 
 #[cfg(test)]
+mod assigning;
+#[cfg(test)]
 mod calls;
 pub mod databases;
 #[cfg(test)]
 mod faults;
 #[cfg(test)]
 mod first_path;
+#[cfg(test)]
+mod guards;
+#[cfg(test)]
+mod outside;
 #[cfg(test)]
 mod proving;
 #[cfg(test)]

@@ -1,9 +1,8 @@
 //! Sessions with a proof in hand, and how they end.
 
 use crate::databases::{DEMO0, WORDS, WORDS_SAVED};
-use crate::session::{ROOM, run_over};
-use mm_base::{Files, SureFiles, SureSink, is_name};
-use std::alloc::Global;
+use crate::session::{files_with, run_over, told};
+use mm_base::{SureFiles, SureSink};
 use std::test::Fail;
 
 /// A theorem that is guarded against change.
@@ -14,27 +13,10 @@ $( (Proof modification
 t $p a $= ? $.
 ";
 
-/// The status of a session of these lines of input over these files, and what it writes.
-fn told<F: Files>(alloc: Global, files: &mut F, input: &[u8]) -> Result<(u8, Vec<u8>), Fail> {
-    let mut screen = SureSink::new(alloc, ROOM)?;
-    let end = run_over(alloc, "", input, files, &mut screen)?;
-    Ok((end.status, screen.held().to_vec(alloc)?))
-}
-
-/// These bytes as the one file `a.mm`.
-fn files_with(alloc: Global, bytes: &[u8]) -> Result<SureFiles, Fail> {
-    let mut files = SureFiles::new(alloc);
-    let name = b"a.mm".as_slice();
-    if is_name(name) {
-        files.add(alloc, name, bytes)?;
-    }
-    Ok(files)
-}
-
 #[test]
 fn a_proof_is_opened_and_left(rt: HostRuntime) -> Result<(), Fail> {
     let alloc = rt.alloc();
-    let mut files = files_with(alloc, WORDS)?;
+    let mut files = files_with(alloc, b"a.mm", WORDS)?;
     let (status, text) = told(
         alloc,
         &mut files,
@@ -78,7 +60,7 @@ MM> QUIT
 #[test]
 fn guarded_and_proved_theorems_are_not_opened(rt: HostRuntime) -> Result<(), Fail> {
     let alloc = rt.alloc();
-    let mut files = files_with(alloc, GUARDED)?;
+    let mut files = files_with(alloc, b"a.mm", GUARDED)?;
     let (status, text) = told(alloc, &mut files, b"PROVE t\nREAD a.mm\nPROVE t\nPR t/OV\n")?;
     assert_eq!(rt; status, 1);
     assert_eq!(rt;
@@ -96,7 +78,7 @@ MM-PA>
 "
             .as_slice()
     );
-    let mut files = files_with(alloc, DEMO0)?;
+    let mut files = files_with(alloc, b"a.mm", DEMO0)?;
     let (_status, text) = told(alloc, &mut files, b"READ a.mm\nPROVE th1")?;
     assert!(rt; text.ends_with(b"MM> PROVE th1\n?C60: not built yet\nMM> \n"));
     Ok(())

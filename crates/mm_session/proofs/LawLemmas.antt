@@ -15,16 +15,24 @@ use Rattle.mm_stack.specs.Accepting.{verdict_of, Accepts}
 use Rattle.mm_effects.specs.declared.state.State.{State}
 use Rattle.mm_effects.specs.Effect.{Effect}
 use Rattle.mm_command.specs.declared.fault.LineFault.{LineFault}
-use Rattle.mm_command.specs.Meanings.{Meaning, Nothing, Read, VerifyProof, WriteSource, Prove, Exit, Save}
+use Rattle.mm_command.specs.declared.command.StepWord.{StepWord}
+use Rattle.mm_command.specs.declared.command.StepWord.TheVariants.{Last}
+use Rattle.mm_command.specs.Meanings.{Meaning, Nothing, Read, VerifyProof, WriteSource, Prove, Assign, Exit, Save}
 use Rattle.mm_effects.specs.Asked.{Asked, TooLong, Wrong, Asks, asked_of, is_pattern}
-use Rattle.mm_effects.specs.Effects.{command_effect, asked_effect, step_of, refusal, answer, silent, with_saved, save_answer, save_known, save_open, save_with, exit_effect, read_effect, write_effect, is_closed, prove_unproved, prove_kind, prove_found, prove_with, prove_effect, read_bytes, read_found, read_with, verify_proof, verify_kind, verify_found, verify_with, fixed_refusal}
-use Rattle.mm_effects.specs.Texts.{no_hand_text, long_text, not_unified_text, save_text, hand_held_text, guarded_text, not_saved_text, not_written_text, wrote_text, line_of, word_fault, line_fault_text, long_line_text, not_built_text, already_read_text, no_file_text, database_fault_text, read_text, no_database_text, no_statement_text, not_theorem_text}
+use Rattle.mm_effects.specs.Effects.{command_effect, asked_effect, step_of, refusal, answer, silent, with_saved, save_answer, save_known, save_open, save_with, assign_with, assign_effect, exit_effect, read_effect, write_effect, is_closed, prove_unproved, prove_kind, prove_found, prove_with, prove_effect, read_bytes, read_found, read_with, verify_proof, verify_kind, verify_found, verify_with, fixed_refusal}
+use Rattle.mm_effects.specs.Edits.{refuse, is_forbidden, assign_outcome, assign_found}
+use Rattle.mm_effects.specs.Texts.{assign_fault_text, memory_text, no_hand_text, long_text, not_unified_text, save_text, hand_held_text, guarded_text, not_saved_text, not_written_text, wrote_text, line_of, word_fault, line_fault_text, long_line_text, not_built_text, already_read_text, no_file_text, database_fault_text, read_text, no_database_text, no_statement_text, not_theorem_text}
 use Rattle.mm_effects.specs.declared.state.Hand.{Hand}
 use Rattle.mm_effects.specs.Counts.{numbers_text, counts_text}
 use Rattle.mm_effects.specs.Opened.{is_unproved}
 use Rattle.mm_plain.specs.declared.plain.Plain.{Plain}
 use Rattle.mm_plain.specs.Shape.{unknown, size_of}
 use Rattle.mm_plain.specs.Numbers.{pending_in}
+use Rattle.mm_plain.specs.Valid.{placed_in}
+use Rattle.mm_edit.specs.Outcome as assigning
+use Rattle.mm_edit.specs.Outcome.{assigned}
+use Rattle.mm_edit.specs.declared.fault.AssignFault.{AssignFault}
+use Rattle.mm_edit.specs.declared.fault.AssignFault.TheVariants as unassigned
 use Rattle.mm_forms.specs.Labels.{label_at}
 use Rattle.mm_sound.specs.Complete.{has_unknown}
 use Rattle.mm_save.specs.Saving.{names_pairs, saved}
@@ -116,6 +124,18 @@ first_not_unified step = refl
 first_save : (label : List ℕ) (open_still : Bool) (steps : ℕ) → first (save_text label open_still steps) ≡ 83
 unfolding first save_text
 first_save label open_still steps = refl
+
+first_assign_fault : (label : List ℕ) (fault : AssignFault) → first (assign_fault_text label fault) ≡ 63
+unfolding first assign_fault_text memory_text
+first_assign_fault label unassigned.TooManySteps = refl
+first_assign_fault label unassigned.TooDeep = refl
+first_assign_fault label unassigned.NoStep = refl
+first_assign_fault label unassigned.NotEarlier = refl
+first_assign_fault label unassigned.NotActive = refl
+first_assign_fault label (unassigned.NoMatch step) = refl
+first_assign_fault label unassigned.TooLong = first_long
+first_assign_fault label unassigned.NeedsWork = refl
+first_assign_fault label unassigned.Memory = refl
 
 first_already : first already_read_text ≡ 63
 unfolding first already_read_text
@@ -327,6 +347,30 @@ save_says : (s : State) (unbuilt g : Bool) → (if unbuilt then fixed_refusal no
 save_says s true g e = other not_built_text 63 first_not_built refused_differs e
 save_says s false g e = save_with_says s s.database s.hand g e
 
+outcome_says : (bytes : List ℕ) (hand : Hand) (label : List ℕ) (id : ℕ) (o : assigning.Outcome) → (assign_outcome bytes hand label id o).text ≡ checked_text 1 0 0 → ⊥
+outcome_says bytes hand label id (assigning.Refused fault) e = other (assign_fault_text label fault) 63 (first_assign_fault label fault) refused_differs e
+outcome_says bytes hand label id (assigning.Placed k sigma) e =
+    let plain : Plain = (placed_in bytes hand.tree.proof k id sigma).plain in other (counts_text bytes plain) 83 (first_counts bytes plain) (λ x. omega (arith, x)) e
+
+forbidden_says : (bytes : List ℕ) (hand : Hand) (label : List ℕ) (id : ℕ) (forbidden : Bool) →
+    (if forbidden then refuse (guarded_text label) hand else assign_outcome bytes hand label id (assigned bytes hand.theorem.0 hand.tree.proof id)).text ≡ checked_text 1 0 0 → ⊥
+forbidden_says bytes hand label id true e = other (guarded_text label) 63 (first_guarded label) refused_differs e
+forbidden_says bytes hand label id false e = outcome_says bytes hand label id (assigned bytes hand.theorem.0 hand.tree.proof id) e
+
+assign_found_says : (bytes : List ℕ) (hand : Hand) (label : List ℕ) (g : Bool) (found : Option ℕ) → (assign_found bytes hand label g found).text ≡ checked_text 1 0 0 → ⊥
+assign_found_says bytes hand label g None e = other (no_statement_text label) 63 (first_no_statement label) refused_differs e
+assign_found_says bytes hand label g (Some id) e = forbidden_says bytes hand label id (is_forbidden g bytes id) e
+
+assign_with_says : (s : State) (database : Option (List ℕ)) (hand : Option Hand) (label : List ℕ) (g : Bool) → (assign_with s database hand label g).text ≡ checked_text 1 0 0 → ⊥
+assign_with_says s (Some bytes) (Some hand) label g e = assign_found_says bytes hand label g (find_label bytes label) e
+assign_with_says s (Some bytes) None label g e = other no_hand_text 63 first_no_hand refused_differs e
+assign_with_says s None (Some hand) label g e = other no_hand_text 63 first_no_hand refused_differs e
+assign_with_says s None None label g e = other no_hand_text 63 first_no_hand refused_differs e
+
+assign_says : (s : State) (step : StepWord) (label : List ℕ) (g : Bool) → (assign_effect s step label g).text ≡ checked_text 1 0 0 → ⊥
+assign_says s Last label g e = assign_with_says s s.database s.hand label g e
+assign_says s step label g e = other not_built_text 63 first_not_built refused_differs e
+
 leave_says : (s : State) (kept : Bool) → (if kept then fixed_refusal not_saved_text s else silent (record s { hand = None })).text ≡ checked_text 1 0 0 → ⊥
 leave_says s true e = other not_saved_text 63 first_not_saved refused_differs e
 leave_says s false e = other [] 0 first_nothing (λ x. omega (arith, x)) e
@@ -347,6 +391,7 @@ command_says (WriteSource name) s map known e = absurd (write_says s s.database 
 command_says (Prove label g) s map known e = absurd (prove_says s s.hand label g e)
 command_says (VerifyProof pattern) s map known e = pattern_says s pattern (is_pattern pattern) refl known e
 command_says (Save normal compressed g) s map known e = absurd (save_says s (normal || compressed) g e)
+command_says (Assign step label g) s map known e = absurd (assign_says s step label g e)
 command_says (Exit force) s map known e = absurd (exit_says s s.hand force e)
 command_says _ s map known e = absurd (other not_built_text 63 first_not_built refused_differs e)
 

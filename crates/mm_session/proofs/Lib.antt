@@ -6,3 +6,4 @@ pub mod LawLemmas
 pub mod SessionLemmas
 mod TakenLemmas
 mod TurnLemmas
+mod SavesLemmas

@@ -7,3 +7,4 @@ pub mod Laws
 pub mod Session
 pub mod Taken
 pub mod Turns
+pub mod Saves

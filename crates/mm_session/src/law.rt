@@ -2,6 +2,7 @@ ghost use Rattle.std.specs.Prelude.{◌≡◌, List, ℕ, take};
 ghost use Rattle.mm_effects.specs.Asked.{asked_of};
 ghost use Rattle.mm_session.specs.Session.{shown};
 ghost use Rattle.mm_session.specs.Laws.{SaysAccepted, AcceptedIsSaid, SessionIsSound, ReadIsWhole};
+ghost use Rattle.mm_session.specs.Saves.{OnlySavesChange, PutsTheDatabase, SavedTheoremsHold, WrittenTheoremsHold};
 
 /// Of a line that is too long, its first 65,537 bytes are as good as all of it.
 pub fn kept_is_enough()
@@ -24,4 +25,18 @@ pub fn proofs_in_hand_are_valid()
 /// What is read is the whole of a file that has no fault.
 pub fn read_is_whole()
     ensures { ReadIsWhole }
+{}
+
+/// A theorem whose last save was complete is accepted in the database after any number of commands, and in every file
+/// written since.
+pub fn saved_theorems_are_accepted()
+    ensures database { SavedTheoremsHold }
+    ensures written { WrittenTheoremsHold }
+{}
+
+/// A database is what it was, with the proofs saved since in their places and nothing else; and what is written is the
+/// database.
+pub fn only_saves_change_a_database()
+    ensures change { OnlySavesChange }
+    ensures put { PutsTheDatabase }
 {}

@@ -1,6 +1,8 @@
 ghost use Rattle.std.specs.Prelude.{◌≡◌, ◌≢◌};
 ghost use Rattle.mm_base.specs.Outside.{RoseBy};
 ghost use Rattle.mm_session.specs.Headline.{IsSession};
+ghost use Rattle.mm_session.specs.Laws.{SessionIsSound};
+ghost use Rattle.mm_session.specs.Saves.{OnlySavesChange, PutsTheDatabase, WrittenTheoremsHold};
 
 use crate::commands::Commands;
 use crate::run::Run;
@@ -37,6 +39,13 @@ pub fn run_session<F: Files, S: Source, K: Sink>(
 ) -> SessionEnd
     // The session is the machine's, over the maps that its commands met.
     ensures session { IsSession ⟦<F as Files>⟧ ⟦<S as Source>⟧ ⟦<K as Sink>⟧ words.now files.old input.old screen.old result files.new input.new screen.new }
+
+    // In every session of the machine a proof in hand is valid for its theorem, each theorem whose last save was complete is
+    // accepted in every file written since, and a file that is written is the database that was read, with the saved proofs.
+    ensures valid { SessionIsSound }
+    ensures accepted { WrittenTheoremsHold }
+    ensures kept { OnlySavesChange }
+    ensures written { PutsTheDatabase }
 
     // Why it ended.
     ensures input_failed { result.status ≡ 3 → RoseBy 1 (S.faults input.old) (S.faults input.new) }

@@ -1,6 +1,8 @@
 use Rattle.std.proofs.Common.{refl, sym, subst}
 use Rattle.mm_session.specs.declared.session.SessionEnd.{SessionEnd}
 use Rattle.mm_session.specs.Headline.{IsSession}
+use Rattle.mm_session.proofs.LawLemmas.{session_is_sound}
+use Rattle.mm_session.proofs.SavesLemmas.{only_saves_change, puts_the_database, written_theorems_hold}
 use Rattle.mm_session.proofs.TurnLemmas.{session_begins, session_starves, stands_sound}
 use Rattle.mm_session.proofs.session.run_session.Goals as goal
 
@@ -26,3 +28,27 @@ loop-status-smaller g c =
 pub take_turn-requires-clause-sound : goal.take_turn-requires-clause-sound
 take_turn-requires-clause-sound g c =
     stands_sound g.F.Files g.S.Source g.K.Sink c.args.words.now c.args.files.now c.args.input.now c.args.screen.now c.loop-status.commands c.loop-status.run c.loop-status.files c.loop-status.input c.loop-status.screen c.loop-status.invariant.0
+
+pub returns-in-Err-clause-valid : goal.returns-in-Err-clause-valid
+returns-in-Err-clause-valid g c = session_is_sound
+
+pub returns-in-Err-clause-accepted : goal.returns-in-Err-clause-accepted
+returns-in-Err-clause-accepted g c = written_theorems_hold
+
+pub returns-in-Err-clause-kept : goal.returns-in-Err-clause-kept
+returns-in-Err-clause-kept g c = only_saves_change
+
+pub returns-in-Err-clause-written : goal.returns-in-Err-clause-written
+returns-in-Err-clause-written g c = puts_the_database
+
+pub returns-in-Ended-clause-valid : goal.returns-in-Ended-clause-valid
+returns-in-Ended-clause-valid g c = session_is_sound
+
+pub returns-in-Ended-clause-accepted : goal.returns-in-Ended-clause-accepted
+returns-in-Ended-clause-accepted g c = written_theorems_hold
+
+pub returns-in-Ended-clause-kept : goal.returns-in-Ended-clause-kept
+returns-in-Ended-clause-kept g c = only_saves_change
+
+pub returns-in-Ended-clause-written : goal.returns-in-Ended-clause-written
+returns-in-Ended-clause-written g c = puts_the_database
