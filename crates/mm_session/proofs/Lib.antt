@@ -7,3 +7,4 @@ pub mod SessionLemmas
 mod TakenLemmas
 mod TurnLemmas
 mod SavesLemmas
+mod OriginLemmas

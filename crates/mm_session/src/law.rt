@@ -2,7 +2,7 @@ ghost use Rattle.std.specs.Prelude.{◌≡◌, List, ℕ, take};
 ghost use Rattle.mm_effects.specs.Asked.{asked_of};
 ghost use Rattle.mm_session.specs.Session.{shown};
 ghost use Rattle.mm_session.specs.Laws.{SaysAccepted, AcceptedIsSaid, SessionIsSound, ReadIsWhole};
-ghost use Rattle.mm_session.specs.Saves.{OnlySavesChange, PutsTheDatabase, SavedTheoremsHold, WrittenTheoremsHold};
+ghost use Rattle.mm_session.specs.Saves.{DatabasesAreFromFiles, OnlySavesChange, PutsTheDatabase, SavedTheoremsHold, WrittenTheoremsHold};
 
 /// Of a line that is too long, its first 65,537 bytes are as good as all of it.
 pub fn kept_is_enough()
@@ -34,9 +34,10 @@ pub fn saved_theorems_are_accepted()
     ensures written { WrittenTheoremsHold }
 {}
 
-/// A database is what it was, with the proofs saved since in their places and nothing else; and what is written is the
-/// database.
+/// A database is what it was, with the proofs saved since in their places and nothing else: the bytes of the file that was
+/// read, with all that were saved. And what is written is the database.
 pub fn only_saves_change_a_database()
     ensures change { OnlySavesChange }
+    ensures origin { DatabasesAreFromFiles }
     ensures put { PutsTheDatabase }
 {}

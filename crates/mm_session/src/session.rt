@@ -2,7 +2,7 @@ ghost use Rattle.std.specs.Prelude.{◌≡◌, ◌≢◌};
 ghost use Rattle.mm_base.specs.Outside.{RoseBy};
 ghost use Rattle.mm_session.specs.Headline.{IsSession};
 ghost use Rattle.mm_session.specs.Laws.{SessionIsSound};
-ghost use Rattle.mm_session.specs.Saves.{OnlySavesChange, PutsTheDatabase, WrittenTheoremsHold};
+ghost use Rattle.mm_session.specs.Saves.{DatabasesAreFromFiles, PutsTheDatabase, WrittenTheoremsHold};
 
 use crate::commands::Commands;
 use crate::run::Run;
@@ -44,7 +44,7 @@ pub fn run_session<F: Files, S: Source, K: Sink>(
     // accepted in every file written since, and a file that is written is the database that was read, with the saved proofs.
     ensures valid { SessionIsSound }
     ensures accepted { WrittenTheoremsHold }
-    ensures kept { OnlySavesChange }
+    ensures origin { DatabasesAreFromFiles }
     ensures written { PutsTheDatabase }
 
     // Why it ended.

@@ -2,7 +2,8 @@ use Rattle.std.proofs.Common.{refl, sym, subst}
 use Rattle.mm_session.specs.declared.session.SessionEnd.{SessionEnd}
 use Rattle.mm_session.specs.Headline.{IsSession}
 use Rattle.mm_session.proofs.LawLemmas.{session_is_sound}
-use Rattle.mm_session.proofs.SavesLemmas.{only_saves_change, puts_the_database, written_theorems_hold}
+use Rattle.mm_session.proofs.OriginLemmas.{databases_are_from_files}
+use Rattle.mm_session.proofs.SavesLemmas.{puts_the_database, written_theorems_hold}
 use Rattle.mm_session.proofs.TurnLemmas.{session_begins, session_starves, stands_sound}
 use Rattle.mm_session.proofs.session.run_session.Goals as goal
 
@@ -35,8 +36,8 @@ returns-in-Err-clause-valid g c = session_is_sound
 pub returns-in-Err-clause-accepted : goal.returns-in-Err-clause-accepted
 returns-in-Err-clause-accepted g c = written_theorems_hold
 
-pub returns-in-Err-clause-kept : goal.returns-in-Err-clause-kept
-returns-in-Err-clause-kept g c = only_saves_change
+pub returns-in-Err-clause-origin : goal.returns-in-Err-clause-origin
+returns-in-Err-clause-origin g c = databases_are_from_files
 
 pub returns-in-Err-clause-written : goal.returns-in-Err-clause-written
 returns-in-Err-clause-written g c = puts_the_database
@@ -47,8 +48,8 @@ returns-in-Ended-clause-valid g c = session_is_sound
 pub returns-in-Ended-clause-accepted : goal.returns-in-Ended-clause-accepted
 returns-in-Ended-clause-accepted g c = written_theorems_hold
 
-pub returns-in-Ended-clause-kept : goal.returns-in-Ended-clause-kept
-returns-in-Ended-clause-kept g c = only_saves_change
+pub returns-in-Ended-clause-origin : goal.returns-in-Ended-clause-origin
+returns-in-Ended-clause-origin g c = databases_are_from_files
 
 pub returns-in-Ended-clause-written : goal.returns-in-Ended-clause-written
 returns-in-Ended-clause-written g c = puts_the_database
