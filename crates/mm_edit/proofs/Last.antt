@@ -1,5 +1,5 @@
 -- The last unknown step.
-use Rattle.std.proofs.Common.{◌≡◌, ℕ, zero, suc, ◌+◌, ◌-◌, ◌<◌, ◌≤◌, List, [], ◌∷◌, map, length, get_or, is_none, ◌⊎◌, inl, inr, Option, None, Some, refl, sym, ◌∙◌, ap, subst, arith}
+use Rattle.std.proofs.Common.{◌≡◌, ℕ, suc, ◌+◌, ◌-◌, ◌<◌, ◌≤◌, List, [], ◌∷◌, map, length, get_or, is_none, ◌⊎◌, inl, inr, Option, None, Some, refl, ◌∙◌, ap, arith}
 use Rattle.std.specs.List.{last_or}
 use Rattle.std.proofs.lemmas.Option.{none-some}
 use Rattle.mm_plain.specs.declared.plain.Plain.{Plain}

@@ -1,9 +1,9 @@
 -- The match of a statement as a function answers what a match is.
-use Rattle.std.proofs.Common.{◌≡◌, ℕ, zero, suc, ◌+◌, ◌<◌, ◌≤◌, ◌≢◌, Bool, true, false, ◌&&◌, ◌||◌, ◌==◌, List, [], ◌∷◌, ◌++◌, map, length, Option, None, Some, refl, sym, ◌∙◌, ap, subst, arith, append_assoc, if◌then◌else◌, ◌⊎◌, inl, inr}
+use Rattle.std.proofs.Common.{◌≡◌, ℕ, suc, ◌+◌, ◌<◌, ◌≢◌, Bool, true, false, ◌||◌, ◌==◌, List, [], ◌∷◌, ◌++◌, map, length, refl, sym, ◌∙◌, ap, subst, arith, append_assoc, if◌then◌else◌, ◌⊎◌, inl, inr}
 use Rattle.std.proofs.lemmas.Bool.{true≢false, false≢true}
-use Rattle.std.specs.List.{All, filter, list_any, list_all, AllByRecursion as ByRecursion}
+use Rattle.std.specs.List.{filter, list_any, list_all, AllByRecursion as ByRecursion}
 use Rattle.std.specs.Cmp.Lexicographic.{pointwise}
-use Rattle.std.proofs.lemmas.List.Elements.{All-from_recursion, recursion_from_All}
+use Rattle.std.proofs.lemmas.List.Elements.{All-from_recursion}
 use Rattle.mm_subst.specs.declared.symbol.WSym.{WSym}
 use Rattle.mm_subst.specs.declared.symbol.WSym.TheVariants.{Var, Work}
 use Rattle.mm_subst.specs.declared.brackets.Brackets.{Brackets}
@@ -12,7 +12,7 @@ use Rattle.mm_subst.specs.Statements.{statement_of}
 use Rattle.mm_subst.specs.Substitutions.{Pairs, applied}
 use Rattle.mm_plain.specs.Premises.{variables_for}
 use Rattle.mm_match.specs.Keys.{once}
-use Rattle.mm_match.specs.Items.{Filling, item_of, piece, filled}
+use Rattle.mm_match.specs.Items.{Filling, item_of, filled}
 use Rattle.mm_match.specs.Parts.{IsValue}
 use Rattle.mm_match.specs.Settled.{paired}
 use Rattle.mm_match.specs.Matches.{IsMatch, IsAnswer}
@@ -22,9 +22,9 @@ use Rattle.mm_match.specs.declared.matched.Matched.{Matched}
 use Rattle.mm_match.specs.declared.matched.Matched.TheVariants.{Missing, Unique, Several}
 use Rattle.mm_match.proofs.Walks.{balanced-append}
 use Rattle.mm_match.proofs.Solving.{IsValue-work}
-use Rattle.mm_match.proofs.Pairing.{keys-paired, applied-paired, valued, paired-valued, IsProper-valued, paired-same, paired-apart}
+use Rattle.mm_match.proofs.Pairing.{applied-paired, valued, paired-valued, IsProper-valued, paired-same, paired-apart}
 use Rattle.mm_edit.specs.Ways.{is_string, is_pair, prefixes, parts, any_values, values_for, choices, ways, unless_several, counted, matched_of}
-use Rattle.mm_edit.proofs.Members.{In, in-left, in-right, in-map, in-flat_map, in-filter, from-map, from-flat_map, from-filter, all-in, in-all, holds-of, fails-of}
+use Rattle.mm_edit.proofs.Members.{In, in-left, in-right, in-map, in-flat_map, in-filter, from-map, from-flat_map, from-filter, holds-of, fails-of}
 use Rattle.mm_edit.proofs.Tests.{is_string-true, is_string-itself, is_substitution-true, is_substitution-itself}
 
 -- the values that are tried

@@ -1,9 +1,8 @@
 -- What assigning a statement to the last unknown step comes to.
-use Rattle.std.specs.Prelude.{◌≡◌, ℕ, ◌+◌, Bool, true, false, List, [], length, Option, None, Some, Result, Ok, Err, nat_lt, if◌then◌else◌}
+use Rattle.std.specs.Prelude.{◌≡◌, ℕ, Bool, true, false, List, [], length, Option, None, Some, Result, Ok, Err, nat_lt, if◌then◌else◌}
 use Rattle.std.specs.List.{list_any}
 use Rattle.mm_scope.specs.Contents.{stated_at}
 use Rattle.mm_stated.specs.Stated.{is_hypothesis}
-use Rattle.mm_subst.specs.declared.symbol.WSym.{WSym}
 use Rattle.mm_subst.specs.Applied.{most_symbols}
 use Rattle.mm_subst.specs.Substitutions.{Pairs, applied}
 use Rattle.mm_plain.specs.declared.plain.Plain.{Plain}

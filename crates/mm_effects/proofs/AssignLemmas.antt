@@ -1,5 +1,5 @@
 -- What an assignment answers.
-use Rattle.std.proofs.Common.{◌≡◌, ℕ, false, true, List, Result, Ok, refl, sym, ◌∙◌, ap}
+use Rattle.std.proofs.Common.{◌≡◌, ℕ, false, true, List, Ok, refl, sym, ◌∙◌, ap}
 use Rattle.mm_plain.specs.Numbers.{labels_in, unknowns_among}
 use Rattle.mm_plain.specs.Shape.{Proof, size_of}
 use Rattle.mm_plain.specs.Valid.{placed_in}

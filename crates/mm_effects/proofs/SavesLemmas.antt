@@ -1,13 +1,12 @@
 -- Which theorems hold after a command, and what it leaves of the database.
-use Rattle.std.proofs.Common.{◌≡◌, ◌≢◌, ◌<◌, ◌≤◌, ◌&&◌, ◌||◌, not, nat_lt, ℕ, Bool, true, false, List, [], ◌∷◌, length, Option, None, Some, refl, sym, ◌∙◌, ap, subst, arith, if◌then◌else◌, true≢false}
+use Rattle.std.proofs.Common.{◌≡◌, ◌≢◌, ◌≤◌, ◌&&◌, ◌||◌, not, nat_lt, ℕ, Bool, true, false, List, [], ◌∷◌, length, Option, None, Some, refl, sym, ◌∙◌, ap, subst, if◌then◌else◌, true≢false}
 use Rattle.std.specs.Str.{bytes_eq}
 use Rattle.std.proofs.lemmas.Slice.Eq.{bytes_eq-Decides}
 use Rattle.mm_base.specs.Files.{Map}
-use Rattle.mm_scope.specs.Contents.{is_read, labels_of, stated_at, find_label, distinct_at}
+use Rattle.mm_scope.specs.Contents.{is_read, stated_at, find_label, distinct_at}
 use Rattle.mm_stated.specs.declared.statement.Kind.{Kind}
 use Rattle.mm_stated.specs.declared.statement.Kind.TheVariants.{Theorem}
 use Rattle.mm_subst.specs.Statements.{statement_of}
-use Rattle.mm_plain.specs.declared.plain.Plain.{Plain}
 use Rattle.mm_plain.specs.Numbers.{HasOwnLabels, pending_in}
 use Rattle.mm_plain.specs.Shape.{Proof, size_of}
 use Rattle.mm_plain.proofs.Owned.{own-valid}

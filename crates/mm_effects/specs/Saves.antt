@@ -1,5 +1,5 @@
 -- What a command saves, and which theorems hold by what was saved.
-use Rattle.std.specs.Prelude.{◌≡◌, not, ℕ, Bool, true, List, [], ◌∷◌, Option, None, Some, if◌then◌else◌}
+use Rattle.std.specs.Prelude.{◌≡◌, not, ℕ, Bool, true, List, Option, None, Some, if◌then◌else◌}
 use Rattle.std.specs.Str.{bytes_eq}
 use Rattle.mm_base.specs.Files.{Map}
 use Rattle.mm_plain.specs.declared.plain.Plain.{Plain}

@@ -1,5 +1,5 @@
 -- What a step of the reading keeps, if there is no fault.
-use Rattle.std.proofs.Common.{◌≡◌, ◌<◌, ◌≤◌, ◌-◌, ℕ, Bool, true, false, cond, List, [], ◌∷◌, length, take, drop, Option, None, Some, position, Result, Ok, Err, refl, arith, length-drop}
+use Rattle.std.proofs.Common.{◌≡◌, ◌<◌, ◌≤◌, ◌-◌, ℕ, Bool, true, false, cond, List, [], ◌∷◌, length, drop, Option, None, Some, position, Result, Ok, Err, refl, arith, length-drop}
 use Rattle.std.proofs.lemmas.List.{length-take}
 use Rattle.std.specs.List.{AllByRecursion as ByRecursion}
 use Rattle.mm_tokens.specs.Bytes.{is_bad}

@@ -1,4 +1,4 @@
-mod Fine
+pub mod Fine
 mod Begun
 mod Reading
 pub mod Forms

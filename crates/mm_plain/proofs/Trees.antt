@@ -1,5 +1,5 @@
 -- Lemmas on seats among children.
-use Rattle.std.proofs.Common.{suc, zero, ◌≡◌, ℕ, ◌+◌, ◌-◌, ◌≤◌, ◌<◌, List, [], ◌∷◌, ◌++◌, length, get_or, set, refl, sym, ◌∙◌, ap, subst, inl, inr, ◌⊎◌, add-one, arith, length-append, nat_le, if◌then◌else◌}
+use Rattle.std.proofs.Common.{suc, zero, ◌≡◌, ℕ, ◌+◌, ◌-◌, ◌≤◌, ◌<◌, List, [], ◌∷◌, length, get_or, set, sym, ◌∙◌, ap, subst, inl, inr, add-one, arith}
 use Rattle.std.specs.List.{flat_map, sum_by}
 use Rattle.std.proofs.lemmas.Grind.{common_steps}
 use Rattle.std.proofs.lemmas.Bool.{cases_lt}
@@ -10,7 +10,7 @@ use Rattle.mm_subst.specs.declared.symbol.WSym.{WSym}
 use Rattle.mm_subst.specs.Substitutions.{Pairs}
 use Rattle.mm_plain.specs.declared.plain.Plain.{Plain}
 use Rattle.mm_plain.specs.Shape.{unknown, known, size_of, steps_of, step_at, put, put_kids, seat}
-use Rattle.mm_plain.proofs.Equations.{size_of-known, size_of-unknown, steps_of-known, steps_of-unknown, put-known, put-unknown, length-steps_of, length-flat_map-steps_of, size_of-pos}
+use Rattle.mm_plain.proofs.Equations.{size_of-known, size_of-unknown, steps_of-known, steps_of-unknown, put-known, put-unknown, length-steps_of, length-flat_map-steps_of}
 
 -- a step beyond all children has no seat
 pub seat-past : (xs : List Plain) (k : ℕ) → sum_by size_of xs < k → seat xs k ≡ (length xs, k - sum_by size_of xs)

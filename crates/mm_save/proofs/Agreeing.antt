@@ -1,13 +1,13 @@
 -- Databases that say the same of symbols and statements.
-use Rattle.std.proofs.Common.{◌≡◌, ◌<◌, ℕ, Bool, true, List, [], ◌∷◌, map, length, nat_lt, nat_eq, slice_index_or, Option, None, Some, if◌then◌else◌, refl, sym, ap, ◌∙◌, subst}
-use Rattle.std.specs.List.{All, filter_map, cons_option, list_any}
+use Rattle.std.proofs.Common.{◌≡◌, ℕ, List, [], ◌∷◌, map, nat_lt, nat_eq, slice_index_or, Option, None, Some, if◌then◌else◌, refl, ap, ◌∙◌}
+use Rattle.std.specs.List.{filter_map, cons_option, list_any}
 use Rattle.mm_scope.specs.Contents.{labels_of, symbols_of, statements_of, stated_at, active_at, distinct_at, is_variable_of}
-use Rattle.mm_stated.specs.Mandatory.{variables_of, statement_at}
+use Rattle.mm_stated.specs.Mandatory.{variables_of}
 use Rattle.mm_stated.specs.Stated.{floated_by, is_hypothesis, variable_of}
 use Rattle.mm_subst.specs.Statements.{statement_of, symbol_of}
 use Rattle.mm_subst.specs.Substitutions.{applied}
 use Rattle.mm_subst.specs.declared.symbol.WSym.{WSym}
-use Rattle.mm_subst.specs.declared.symbol.WSym.TheVariants.{Const, Var, Work}
+use Rattle.mm_subst.specs.declared.symbol.WSym.TheVariants.{Const, Var}
 use Rattle.mm_plain.specs.declared.plain.Plain.{Plain}
 use Rattle.mm_plain.specs.declared.plain.Plain.TheOpen.{Plain-F}
 use Rattle.mm_plain.specs.declared.plain.Plain.TheOpen as P

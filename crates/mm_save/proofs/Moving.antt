@@ -1,7 +1,7 @@
 -- A proof in hand after the database has changed.
-use Rattle.std.proofs.Common.{◌≡◌, ◌<◌, ℕ, true, false, List, [], ◌∷◌, map, length, Option, None, Some, refl, sym, ap, ◌∙◌, subst}
+use Rattle.std.proofs.Common.{◌≡◌, ◌<◌, ℕ, false, List, [], ◌∷◌, map, length, sym, ap, ◌∙◌, subst}
 use Rattle.std.specs.List.{All}
-use Rattle.mm_scope.specs.Contents.{symbols_of, distinct_at}
+use Rattle.mm_scope.specs.Contents.{distinct_at}
 use Rattle.mm_subst.specs.Statements.{statement_of}
 use Rattle.mm_subst.specs.Substitutions.{Pairs, applied, value_of}
 use Rattle.mm_subst.specs.declared.symbol.WSym.{WSym}
@@ -10,10 +10,9 @@ use Rattle.mm_plain.specs.declared.plain.Plain.{Plain}
 use Rattle.mm_plain.specs.declared.plain.Plain.TheOpen.{Plain-F}
 use Rattle.mm_plain.specs.declared.plain.Plain.TheOpen as P
 use Rattle.mm_plain.specs.declared.plain.Plain.TheViews as V
-use Rattle.mm_plain.specs.Shape.{Each, Proof, steps_of, target_of}
+use Rattle.mm_plain.specs.Shape.{Each, Proof, steps_of}
 use Rattle.mm_plain.specs.Sources.{label_of, sigma_of, is_pending}
-use Rattle.mm_plain.specs.Premises.{premises_of}
-use Rattle.mm_plain.specs.Valid.{Setting, setting_of, IsKnownSymbol, IsString, is_among, Names, IsInstance, good_layer, IsGood, IsSound, IsValid}
+use Rattle.mm_plain.specs.Valid.{Setting, IsKnownSymbol, IsString, is_among, Names, good_layer, IsGood, IsSound, IsValid}
 use Rattle.mm_sound.specs.Apart.{AreParted, KeepsPairs, IsApart}
 use Rattle.mm_sound.specs.Complete.{IsDone, IsComplete, IsSettled}
 use Rattle.mm_sound.specs.Proves.{Proves}

@@ -14,13 +14,12 @@ use Rattle.mm_plain.specs.Numbers.{IsOwnLabel, HasOwnLabels}
 use Rattle.mm_plain.specs.Shape.{Each, Proof, steps_of}
 use Rattle.mm_plain.specs.Sources.{label_of}
 use Rattle.mm_plain.specs.Valid.{IsValid}
-use Rattle.mm_plain.proofs.Owned.{own-valid}
 use Rattle.mm_stack.specs.Accepting.{Accepts, verdict_of}
 use Rattle.mm_stack.specs.Decoding.{proof_of}
 use Rattle.mm_stack.specs.declared.outcome.Verdict.TheVariants.{Incomplete}
 use Rattle.mm_forms.specs.Labels.{label_at}
 use Rattle.mm_sound.specs.Apart.{IsApart, pairs_by}
-use Rattle.mm_sound.specs.Complete.{IsComplete, IsSettled, has_unknown}
+use Rattle.mm_sound.specs.Complete.{IsSettled, has_unknown}
 use Rattle.mm_sound.specs.Proves.{Proves}
 use Rattle.mm_sound.specs.Written.{texts_in, written}
 use Rattle.mm_sound.proofs.Accepted.{written_accepts}
@@ -28,11 +27,10 @@ use Rattle.mm_sound.proofs.Incomplete.{written_incomplete}
 use Rattle.mm_sound.proofs.WithoutPairs.{without_pairs}
 use Rattle.mm_splice.specs.Judging.{JudgesTheRest}
 use Rattle.mm_splice.specs.Keeping.{KeepsTheRest}
-use Rattle.mm_splice.specs.Splicing.{spliced, moved, put_between}
 use Rattle.mm_splice.proofs.Keeping.{keeps_the_rest}
 use Rattle.mm_splice.proofs.Verdicts.{judges_the_rest}
 use Rattle.mm_save.specs.Saving.{saved, saved_text, has_pairs, names_pairs}
-use Rattle.mm_save.specs.Outside.{KeepsOutside, HasRoom, HaveRoom, saved_in_turn}
+use Rattle.mm_save.specs.Outside.{KeepsOutside, HaveRoom, saved_in_turn}
 use Rattle.mm_save.proofs.Agreeing.{Agree, replaced_agrees, statement_same, label_same, written_same}
 use Rattle.mm_save.proofs.Moving.{proves_moved, valid_moved, settled_moved, apart_moved}
 use Rattle.mm_save.proofs.Places.{rises, within, front_stays, back_stays}

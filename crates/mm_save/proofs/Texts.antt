@@ -1,5 +1,5 @@
 -- The text of a saved proof.
-use Rattle.std.proofs.Common.{◌≡◌, ◌≢◌, ◌<◌, ◌-◌, ℕ, Bool, true, false, not, ◌&&◌, ◌||◌, nat_eq, List, [], ◌∷◌, ◌++◌, map, length, get_or, Option, None, Some, refl, sym, ap, ◌∙◌, arith, length-append}
+use Rattle.std.proofs.Common.{◌≡◌, ◌≢◌, ◌<◌, ◌-◌, ℕ, Bool, true, false, not, ◌&&◌, ◌||◌, nat_eq, List, [], ◌∷◌, map, length, get_or, Option, None, Some, refl, ap, ◌∙◌, arith, length-append}
 use Rattle.std.proofs.lemmas.Bool.{true≢false, eqb-true}
 use Rattle.std.proofs.lemmas.Grind.{common_steps}
 use Rattle.std.proofs.lemmas.List.Elements.{All-from_recursion}
@@ -7,7 +7,6 @@ use Rattle.std.proofs.lemmas.List.Folds.{list_any_none}
 use Rattle.std.specs.List.{All, AllByRecursion as ByRecursion, list_any}
 use Rattle.mm_tokens.specs.Bytes.{is_bad, is_white}
 use Rattle.mm_words.specs.Words.{is_label_byte, is_bad_label}
-use Rattle.mm_scope.specs.Contents.{labels_of}
 use Rattle.mm_layout.specs.Normal.{lines_of, behind_feeds, normal_text}
 use Rattle.mm_layout.specs.Words.{is_word_byte, IsWord}
 use Rattle.mm_layout.proofs.Clean.{text_good, text_dollarless, text_front, text_back}

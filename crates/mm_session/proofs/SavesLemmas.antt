@@ -4,7 +4,7 @@ use Rattle.mm_effects.specs.Asked.{asked_of}
 use Rattle.mm_effects.specs.Effects.{step_of}
 use Rattle.mm_effects.specs.Saves.{HoldsIn}
 use Rattle.mm_effects.proofs.SavesLemmas as effects
-use Rattle.mm_session.specs.Session.{Script, Turn, session, turn}
+use Rattle.mm_session.specs.Session.{Turn, session, turn}
 use Rattle.mm_session.specs.Saves.{is_proved, saved_since, SavedTheoremsHold, WrittenTheoremsHold, OnlySavesChange, PutsTheDatabase}
 use Rattle.mm_session.proofs.LawLemmas.{session_is_sound}
 

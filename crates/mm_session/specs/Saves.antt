@@ -1,5 +1,5 @@
 -- What a session has saved, and which theorems hold by it.
-use Rattle.std.specs.Prelude.{◌≡◌, ◌+◌, ℕ, zero, suc, Bool, true, false, List, [], ◌∷◌, Option, Some}
+use Rattle.std.specs.Prelude.{◌≡◌, ◌+◌, ℕ, zero, suc, Bool, true, false, List, Option, Some}
 use Rattle.mm_stack.specs.Accepting.{Accepts}
 use Rattle.mm_command.specs.Meanings.{Read}
 use Rattle.mm_effects.specs.Asked.{Asks, asked_of}

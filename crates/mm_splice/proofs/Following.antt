@@ -4,7 +4,7 @@ use Rattle.std.proofs.lemmas.List.{map-append, length-map}
 use Rattle.std.specs.Option.{option_map}
 use Rattle.std.specs.Str.{bytes_eq}
 use Rattle.mm_names.specs.Texts.{with_text}
-use Rattle.mm_layers.specs.Moves.{Move, in_force}
+use Rattle.mm_layers.specs.Moves.{in_force}
 use Rattle.mm_layers.specs.Moves as move
 use Rattle.mm_tokens.specs.declared.pieces.Span.{Span}
 use Rattle.mm_scope.specs.Contents.{past_before}

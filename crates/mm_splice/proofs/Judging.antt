@@ -9,7 +9,7 @@ use Rattle.mm_stated.specs.Stated.{Stated}
 use Rattle.mm_stated.specs.declared.statement.Kind.{Kind}
 use Rattle.mm_stated.specs.declared.statement.Kind.TheVariants as kind
 use Rattle.mm_stack.specs.Accepting.{verdict_after, verdict_by}
-use Rattle.mm_stack.specs.Decoding.{step_by, labelled, step_of, steps_from, steps_in, unless_empty}
+use Rattle.mm_stack.specs.Decoding.{step_by, labelled, step_of, steps_from, steps_in}
 use Rattle.mm_stack.specs.Decoding as decoding
 use Rattle.mm_stack.specs.Differing.{fault_of, violations}
 use Rattle.mm_stack.specs.Running.{Argument, arguments, has_typecode, bind, substitution_of, is_instance, unless, after, kept, popped, values_at, conclusion_at, violations_at, checks, applied, run_step, run_from, run}

@@ -1,6 +1,5 @@
 use Rattle.std.proofs.Common.{◌≡◌, sym, ◌∙◌, subst}
 use Rattle.std.specs.Prelude.{Result, Err}
-use Rattle.mm_plain.specs.Shape.{Proof}
 use Rattle.mm_tree.proofs.Rooms.{same_error}
 use Rattle.mm_edit.specs.Faults.{fault_of}
 use Rattle.mm_edit.specs.Outcome.{assigned, IsAssigned}

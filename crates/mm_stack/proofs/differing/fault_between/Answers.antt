@@ -1,4 +1,4 @@
-use Rattle.std.proofs.Common.{◌≡◌, sym, ◌∙◌, arith, get_or, slice_get, None, Some}
+use Rattle.std.proofs.Common.{sym, ◌∙◌, arith}
 use Rattle.mm_scope.specs.Contents.{is_variable_of}
 use Rattle.mm_stack.specs.Differing.{faults_with}
 use Rattle.mm_stack.proofs.Firsts.{passed_over, goes_on_among, stops_among}

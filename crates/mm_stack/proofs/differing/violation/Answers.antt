@@ -1,4 +1,4 @@
-use Rattle.std.proofs.Common.{◌≡◌, ℕ, List, ◌+◌, sym, ap, ◌∙◌, arith, get_or, slice_get, None, Some}
+use Rattle.std.proofs.Common.{sym, ap, ◌∙◌, arith}
 use Rattle.mm_stack.specs.Seats.{value_in}
 use Rattle.mm_stack.specs.Differing.{faults_between}
 use Rattle.mm_stack.proofs.Firsts.{goes_on, stops, same_first}
