@@ -1,0 +1,4 @@
+pub mod Phrases
+pub mod Written
+pub mod Apart
+pub mod Rules

@@ -1,0 +1,33 @@
+//! What holds of the tokens, the declarations and the statements of each database.
+
+ghost use Rattle.std.specs.Prelude.{◌≡◌, true, [], All};
+ghost use Rattle.mm_scope.specs.Contents.{is_read, events_of, labels_of};
+ghost use Rattle.mm_scope.specs.Events.{open_blocks};
+ghost use Rattle.mm_grammar.specs.Written.{IsWritten};
+ghost use Rattle.mm_grammar.specs.Rules.{FollowsRules};
+ghost use Rattle.mm_grammar.specs.Apart.{IsNoSymbol};
+
+/// The statements of a database that is read are its tokens outside comments, in order, each of one of the forms of the
+/// language (Metamath book, section 4.1 and Appendix E). What the database says is what they say, one after another.
+pub fn statements_are_the_tokens(bytes: &[u8])
+    ensures { is_read bytes.now ≡ true → IsWritten bytes.now }
+{
+    let _ = bytes;
+}
+
+/// Each declaration, each statement and each end of a block is as the language asks, given what stands before it
+/// (Metamath book, sections 4.1.3 and 4.2): a declared symbol and a label are new, a symbol that is used is active, a `$f`
+/// types a variable once, and a variable of an expression is typed. And all blocks are closed.
+pub fn rules_are_followed(bytes: &[u8])
+    ensures followed { FollowsRules (events_of bytes.now) }
+    ensures closed { open_blocks (events_of bytes.now) ≡ [] }
+{
+    let _ = bytes;
+}
+
+/// No label is a symbol, whether that is declared earlier or later.
+pub fn labels_are_no_symbols(bytes: &[u8])
+    ensures { All (IsNoSymbol bytes.now) (labels_of bytes.now) }
+{
+    let _ = bytes;
+}

@@ -1,0 +1,8 @@
+//! The grammar of a Metamath database: its statements are its tokens, and each is as the language asks.
+#![tactic(auto)]
+
+mod laws;
+#[cfg(test)]
+mod tests;
+
+pub use laws::{labels_are_no_symbols, rules_are_followed, statements_are_the_tokens};

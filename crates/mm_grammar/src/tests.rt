@@ -1,0 +1,11 @@
+//! The laws, each called once.
+
+use crate::{labels_are_no_symbols, rules_are_followed, statements_are_the_tokens};
+
+#[test]
+fn laws_do_nothing() {
+    let text = b"$c wff $. ${ $v p $. wp $f wff p $. $}";
+    statements_are_the_tokens(text);
+    rules_are_followed(text);
+    labels_are_no_symbols(text);
+}
