@@ -11,5 +11,7 @@ mod Answering
 mod Begun
 pub mod Following
 pub mod Closing
+mod Floating
+pub mod Substituting
 mod Parting
 pub mod Apart

@@ -1,11 +1,15 @@
 //! What holds of the tokens, the declarations and the statements of each database.
 
-ghost use Rattle.std.specs.Prelude.{◌≡◌, true, [], All};
-ghost use Rattle.mm_scope.specs.Contents.{is_read, events_of, labels_of};
+ghost use Rattle.std.specs.Prelude.{◌≡◌, ℕ, true, List, [], All, Ok};
+ghost use Rattle.mm_scope.specs.Contents.{is_read, events_of, labels_of, stated_at};
 ghost use Rattle.mm_scope.specs.Events.{open_blocks};
+ghost use Rattle.mm_stack.specs.Running.{applied};
+ghost use Rattle.mm_stack.specs.Laws.{AreApart, Substitutes, hypotheses_of, variables_of};
 ghost use Rattle.mm_grammar.specs.Written.{IsWritten};
 ghost use Rattle.mm_grammar.specs.Rules.{FollowsRules};
 ghost use Rattle.mm_grammar.specs.Apart.{IsNoSymbol};
+
+use mm_stack::assertions_substitute;
 
 /// The statements of a database that is read are its tokens outside comments, in order, each of one of the forms of the
 /// language (Metamath book, section 4.1 and Appendix E). What the database says is what they say, one after another.
@@ -30,4 +34,14 @@ pub fn labels_are_no_symbols(bytes: &[u8])
     ensures { All (IsNoSymbol bytes.now) (labels_of bytes.now) }
 {
     let _ = bytes;
+}
+
+/// Each assertion of a database substitutes (Metamath book, section 4.1.4): where a proof's step that names it pushes an
+/// entry, there is one substitution under which the entries popped are its mandatory hypotheses and the entry pushed is
+/// its conclusion. Its `$f` differ in their variables, and none has a variable as a typecode.
+pub fn assertions_of_databases_substitute(bytes: &[u8])
+    ensures apart { (id : ℕ) → AreApart (variables_of (hypotheses_of bytes.now (stated_at bytes.now id))) (hypotheses_of bytes.now (stated_at bytes.now id)) }
+    ensures substitutes { (id k : ℕ) (groups stack next : List (List ℕ)) → applied bytes.now groups (stated_at bytes.now id) stack k ≡ Ok next → Substitutes bytes.now (stated_at bytes.now id) stack next }
+{
+    assertions_substitute(bytes);
 }

@@ -5,4 +5,7 @@ mod laws;
 #[cfg(test)]
 mod tests;
 
-pub use laws::{labels_are_no_symbols, rules_are_followed, statements_are_the_tokens};
+pub use laws::{
+    assertions_of_databases_substitute, labels_are_no_symbols, rules_are_followed,
+    statements_are_the_tokens,
+};

@@ -1,6 +1,9 @@
 //! The laws, each called once.
 
-use crate::{labels_are_no_symbols, rules_are_followed, statements_are_the_tokens};
+use crate::{
+    assertions_of_databases_substitute, labels_are_no_symbols, rules_are_followed,
+    statements_are_the_tokens,
+};
 
 #[test]
 fn laws_do_nothing() {
@@ -8,4 +11,5 @@ fn laws_do_nothing() {
     statements_are_the_tokens(text);
     rules_are_followed(text);
     labels_are_no_symbols(text);
+    assertions_of_databases_substitute(text);
 }
