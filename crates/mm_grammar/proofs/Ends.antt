@@ -3,7 +3,7 @@ use Rattle.std.proofs.Common.{◌≡◌, ◌≤◌, ◌<◌, ◌+◌, ℕ, false
 use Rattle.std.proofs.lemmas.Bool.{eqb-true}
 use Rattle.mm_tokens.specs.declared.pieces.Span.{Span}
 use Rattle.mm_scope.specs.Events.{Event, put, float, essential, asserted, theorem, distinct, symbols}
-use Rattle.mm_scope.specs.Steps.{State, at_end}
+use Rattle.mm_scope.specs.Steps.{State, at_end, most_symbols}
 use Rattle.mm_scope.specs.declared.mode.Mode.{Mode}
 use Rattle.mm_scope.specs.declared.mode.Mode.TheVariants as mode
 use Rattle.mm_forms.proofs.Fine.{IfFine, fine_if}
@@ -11,14 +11,20 @@ use Rattle.mm_grammar.specs.Phrases.{Noted, Phrase, places, numbers, text_at, Re
 use Rattle.mm_grammar.specs.Phrases as phrase
 use Rattle.mm_grammar.proofs.Writing.{past_push, IsDone, one_phrase, Listing, Stating, Proving, as_long, ReadAt}
 
-some_symbols : (k j : ℕ) → nat_eq k 0 ≡ false → k ≡ j → 1 ≤ j
-some_symbols k j h e = grind (arith, h, e)
+some_symbols : (k j : ℕ) → nat_eq k 0 ≡ false → k ≤ most_symbols → k ≡ j → (1 ≤ j) × (j ≤ most_symbols)
+some_symbols k j h few e = (some k h e, omega (arith, few, e))
+  where
+    some : (m : ℕ) → nat_eq m 0 ≡ false → m ≡ j → 1 ≤ j
+    some m g f = grind (arith, g, f)
 
-two_symbols : (k j : ℕ) → nat_lt k 2 ≡ false → k ≡ j → 2 ≤ j
-two_symbols k j h e = grind (arith, h, e)
+two_symbols : (k j : ℕ) → nat_lt k 2 ≡ false → k ≤ most_symbols → k ≡ j → (2 ≤ j) × (j ≤ most_symbols)
+two_symbols k j h few e = (two k h e, omega (arith, few, e))
+  where
+    two : (m : ℕ) → nat_lt m 2 ≡ false → m ≡ j → 2 ≤ j
+    two m g f = grind (arith, g, f)
 
-one_or_more : (k j : ℕ) → 0 < k → k ≡ j → 1 ≤ j
-one_or_more k j h e = omega (arith, h, e)
+one_or_more : (k j : ℕ) → 0 < k → k ≤ most_symbols → k ≡ j → (1 ≤ j) × (j ≤ most_symbols)
+one_or_more k j h few e = (omega (arith, h, e), omega (arith, few, e))
 
 -- what a labelled statement has and says by then
 module _ (bytes keyword label : List ℕ) (described : Option Span) (all : List (List ℕ)) (buffer : List ℕ) (begun : List Noted) (s : Stating bytes keyword label described all buffer begun) where
@@ -49,7 +55,7 @@ module _ (bytes : List ℕ) (read : List Noted) (s : State (List Event)) (n : No
         phrases = g.phrases ++ (q ∷ []);
         begun = [];
         done = one_phrase bytes (symbols s.context) read g.phrases g.begun g.done q n (sym (ap (λ b. b ++ (n ∷ [])) l.stands))
-            (l.reads, some_symbols (length s.buffer) (length g.now.listed) some (as_long s.buffer g.now.listed l.numbered), ends) l.named;
+            (l.reads, some_symbols (length s.buffer) (length g.now.listed) some l.few (as_long s.buffer g.now.listed l.numbered), ends) l.named;
         now = (refl, g.now.said ∙ sym (past_push bytes g.phrases q));
       })
 
@@ -62,7 +68,7 @@ module _ (bytes : List ℕ) (read : List Noted) (s : State (List Event)) (n : No
         phrases = g.phrases ++ (q ∷ []);
         begun = [];
         done = one_phrase bytes (symbols s.context) read g.phrases g.begun g.done q n (sym (ap (λ b. b ++ (n ∷ [])) l.stands))
-            (l.reads, some_symbols (length s.buffer) (length g.now.listed) some (as_long s.buffer g.now.listed l.numbered), ends) l.named;
+            (l.reads, some_symbols (length s.buffer) (length g.now.listed) some l.few (as_long s.buffer g.now.listed l.numbered), ends) l.named;
         now = (refl, g.now.said ∙ sym (past_push bytes g.phrases q));
       })
 
@@ -75,7 +81,7 @@ module _ (bytes : List ℕ) (read : List Noted) (s : State (List Event)) (n : No
         phrases = g.phrases ++ (q ∷ []);
         begun = [];
         done = one_phrase bytes (symbols s.context) read g.phrases g.begun g.done q n (sym (ap (λ b. b ++ (n ∷ [])) l.stands))
-            (l.reads, two_symbols (length s.buffer) (length g.now.0.0) some (as_long s.buffer g.now.0.0 l.numbered), ends) l.named;
+            (l.reads, two_symbols (length s.buffer) (length g.now.0.0) some l.few (as_long s.buffer g.now.0.0 l.numbered), ends) l.named;
         now = (refl, ap (λ b. distinct b ∷ s.context) l.numbered ∙ ap (λ past. distinct (numbers g.now.0.0) ∷ past) g.now.1 ∙ sym (past_push bytes g.phrases q));
       })
 
@@ -102,7 +108,7 @@ module _ (bytes : List ℕ) (read : List Noted) (s : State (List Event)) (n : No
         phrases = g.phrases ++ (q ∷ []);
         begun = [];
         done = one_phrase bytes (symbols s.context) read g.phrases g.begun g.done q n (sym (ends_so (codes "$f") g.begun st))
-            (st.labelling.plain, st.listing.reads, sym (long_so (codes "$f") g.begun st) ∙ eqb-true (length s.buffer) 2 two, ends) st.listing.named;
+            (st.labelling.is, st.listing.reads, sym (long_so (codes "$f") g.begun st) ∙ eqb-true (length s.buffer) 2 two, ends) st.listing.named;
         now = (refl, says_so (codes "$f") g.begun st float _ g.now.1 ∙ sym (past_push bytes g.phrases q));
       }) (λ _. tt)
 
@@ -115,7 +121,7 @@ module _ (bytes : List ℕ) (read : List Noted) (s : State (List Event)) (n : No
         phrases = g.phrases ++ (q ∷ []);
         begun = [];
         done = one_phrase bytes (symbols s.context) read g.phrases g.begun g.done q n (sym (ends_so (codes "$e") g.begun st))
-            (st.labelling.plain, st.listing.reads, some_symbols (length s.buffer) (length st.listed) some (long_so (codes "$e") g.begun st), ends) st.listing.named;
+            (st.labelling.is, st.listing.reads, some_symbols (length s.buffer) (length st.listed) some st.listing.few (long_so (codes "$e") g.begun st), ends) st.listing.named;
         now = (refl, says_so (codes "$e") g.begun st essential _ g.now.1 ∙ sym (past_push bytes g.phrases q));
       })
 
@@ -128,7 +134,7 @@ module _ (bytes : List ℕ) (read : List Noted) (s : State (List Event)) (n : No
         phrases = g.phrases ++ (q ∷ []);
         begun = [];
         done = one_phrase bytes (symbols s.context) read g.phrases g.begun g.done q n (sym (ends_so (codes "$a") g.begun st))
-            (st.labelling.plain, st.listing.reads, some_symbols (length s.buffer) (length st.listed) some (long_so (codes "$a") g.begun st), ends) st.listing.named;
+            (st.labelling.is, st.listing.reads, some_symbols (length s.buffer) (length st.listed) some st.listing.few (long_so (codes "$a") g.begun st), ends) st.listing.named;
         now = (refl, says_so (codes "$a") g.begun st asserted _ g.now.1 ∙ sym (past_push bytes g.phrases q));
       })
 
@@ -145,7 +151,7 @@ module _ (bytes : List ℕ) (read : List Noted) (s : State (List Event)) (n : No
         done = one_phrase bytes (symbols s.context) read g.phrases g.begun g.done q n
             (sym (ap (λ b. b ++ (n ∷ [])) pr.stands ∙ append_assoc pr.front (pr.equals ∷ pr.proof) (n ∷ [])
             ∙ ap (λ f. f ++ (pr.equals ∷ (pr.proof ++ (n ∷ [])))) (stating_stands bytes (codes "$p") s.label s.described (symbols s.context) s.buffer pr.front st)))
-            (st.labelling.plain, st.listing.reads, one_or_more (length s.buffer) (length st.listed) pr.some (long_so (codes "$p") pr.front st), pr.reads, pr.plain, ends) st.listing.named;
+            (st.labelling.is, st.listing.reads, one_or_more (length s.buffer) (length st.listed) pr.some st.listing.few (long_so (codes "$p") pr.front st), pr.reads, pr.plain, ends) st.listing.named;
         now = (
           refl,
           ap (λ from. theorem s.label s.buffer from to s.described ∷ s.context) pr.starts

@@ -1,16 +1,36 @@
 -- Each token that is no keyword carries on what is written.
-use Rattle.std.proofs.Common.{◌≡◌, ℕ, false, not, ◌||◌, List, [], ◌∷◌, ◌++◌, length, codes, nat_lt, nat_eq, refl, sym, ap, subst}
+use Rattle.std.proofs.Common.{◌≡◌, ◌≤◌, ◌<◌, ℕ, Bool, true, false, not, ◌||◌, List, [], ◌∷◌, ◌++◌, length, codes, nat_lt, nat_eq, refl, sym, ap, subst, arith}
 use Rattle.std.specs.List.{list_any}
 use Rattle.mm_words.specs.Words.{is_bad_label, is_bad_symbol}
 use Rattle.mm_scope.specs.Events.{Event, put, constant, variable, symbols}
 use Rattle.mm_scope.specs.Looks.{look_back}
-use Rattle.mm_scope.specs.Steps.{Answers, State, symbol_checks, take_symbol, is_full, a_label, a_constant, a_variable, a_float, a_symbol, a_distinct, at_text}
+use Rattle.mm_scope.specs.Steps.{Answers, State, symbol_checks, take_symbol, is_full, most_symbols, a_label, a_constant, a_variable, a_float, a_symbol, a_distinct, at_text}
 use Rattle.mm_scope.specs.declared.mode.Mode.{Mode}
 use Rattle.mm_scope.specs.declared.mode.Mode.TheVariants as mode
 use Rattle.mm_forms.proofs.Fine.{IfFine, fine_if, fine_unless}
+use Rattle.std.proofs.lemmas.Bool.{true≢false}
 use Rattle.mm_grammar.specs.Phrases.{Noted, Symbol, text_at, IsPlain, IsSymbol}
 use Rattle.mm_grammar.proofs.Known.{active_named, declared_named}
 use Rattle.mm_grammar.proofs.Writing.{one_token, one_text, Stating, listing_more, stating_more, proving_more, declaring_more, Begun, ReadAt}
+
+no_longer : (k : ℕ) → nat_lt 255 k ≡ false → k ≤ 255
+no_longer k h = grind arith
+
+has_room : (k : ℕ) → not (nat_lt k most_symbols) ≡ false → k < most_symbols
+has_room k h = grind arith
+
+none_left : (k : ℕ) → nat_eq k 0 ≡ true → k < most_symbols
+none_left k h = grind arith
+
+one_left : (k : ℕ) (b : Bool) → (nat_lt 1 k || b) ≡ false → k < most_symbols
+one_left k b h = by (nat_lt 1 k) refl h
+  where
+    few : nat_lt 1 k ≡ false → k < most_symbols
+    few e = grind arith
+
+    by : (c : Bool) → nat_lt 1 k ≡ c → (c || b) ≡ false → k < most_symbols
+    by true e g = absurd (true≢false g)
+    by false e g = few e
 
 -- where n is the next token
 module _ (bytes : List ℕ) (read : List Noted) (s : State (List Event)) (n : Noted) (noted : s.comment ≡ n.comment) where
@@ -22,13 +42,13 @@ module _ (bytes : List ℕ) (read : List Noted) (s : State (List Event)) (n : No
   a_label_written g plain p =
       let t : List ℕ = text_at bytes n in
       let a : Answers = look_back s.context t in
-      fine_if (is_bad_label t) _ _ Good (λ _. tt) (λ _.
+      fine_if (is_bad_label t) _ _ Good (λ _. tt) (λ fit.
       fine_if (a.label || a.known) _ _ Good (λ _. tt) (λ _.
-      fine_if (nat_lt 255 (length t)) _ _ Good (λ _. tt) (λ _. record {
+      fine_if (nat_lt 255 (length t)) _ _ Good (λ _. tt) (λ short. record {
         phrases = g.phrases;
         begun = g.begun ++ (n ∷ []);
         done = one_token bytes (symbols s.context) read g.phrases g.begun g.done n;
-        now = (record { name = n; plain = plain; text = refl; comment = noted; stands = ap (λ b. b ++ (n ∷ [])) g.now.0 }, g.now.1);
+        now = (record { name = n; is = record { fit = fit; short = no_longer (length t) short }; text = refl; comment = noted; stands = ap (λ b. b ++ (n ∷ [])) g.now.0 }, g.now.1);
       })))
 
   -- the token is a symbol
@@ -45,13 +65,13 @@ module _ (bytes : List ℕ) (read : List Noted) (s : State (List Event)) (n : No
   is_symbol plain h = record { plain = plain; named = active_named s.context (text_at bytes n) h }
 
   abbrev Fits : (m : Mode) → ReadAt bytes read s m → Type 0
-  Fits m g = (k : ℕ) → IsSymbol bytes (symbols s.context) (record { place = n; number = k }) → Begun bytes m (take_symbol s k) g.phrases (g.begun ++ (n ∷ []))
+  Fits m g = (k : ℕ) → IsSymbol bytes (symbols s.context) (record { place = n; number = k }) → length s.buffer < most_symbols → Begun bytes m (take_symbol s k) g.phrases (g.begun ++ (n ∷ []))
 
   a_symbol_written : (m : Mode) → s.mode ≡ m → (g : ReadAt bytes read s m) → IsPlain bytes n → Fits m g → (p : ℕ) → IfFine (a_symbol s (look_back s.context (text_at bytes n)) p) Good
   unfolding a_symbol
   a_symbol_written m e g plain fit p =
       let a : Answers = look_back s.context (text_at bytes n) in
-      fine_unless (symbol_checks s a p) (take_symbol s a.number) Good (λ off. grown m e g a.number (fit a.number (is_symbol plain off.0)))
+      fine_unless (symbol_checks s a p) (take_symbol s a.number) Good (λ off. grown m e g a.number (fit a.number (is_symbol plain off.0) (has_room (length s.buffer) off.1.1.1.0)))
 
   a_distinct_written : (m : Mode) → s.mode ≡ m → (g : ReadAt bytes read s m) → IsPlain bytes n → Fits m g → (p : ℕ) → IfFine (a_distinct s (look_back s.context (text_at bytes n)) p) Good
   unfolding a_distinct
@@ -59,16 +79,16 @@ module _ (bytes : List ℕ) (read : List Noted) (s : State (List Event)) (n : No
       let a : Answers = look_back s.context (text_at bytes n) in
       fine_if (not (a.constant || a.active)) _ _ Good (λ _. tt) (λ live.
       fine_if (a.constant || list_any (nat_eq a.number) s.buffer) _ _ Good (λ _. tt) (λ _.
-      fine_if (is_full s) _ _ Good (λ _. tt) (λ _. grown m e g a.number (fit a.number (is_symbol plain live)))))
+      fine_if (is_full s) _ _ Good (λ _. tt) (λ room. grown m e g a.number (fit a.number (is_symbol plain live) (has_room (length s.buffer) room)))))
 
   a_float_written : (m : Mode) → s.mode ≡ m → (g : ReadAt bytes read s m) → IsPlain bytes n → Fits m g → (p : ℕ) → IfFine (a_float s (look_back s.context (text_at bytes n)) p) Good
   unfolding a_float
   a_float_written m e g plain fit p =
       let a : Answers = look_back s.context (text_at bytes n) in
       fine_if (not (a.constant || a.active)) _ _ Good (λ _. tt) (λ live.
-      fine_if (nat_eq (length s.buffer) 0) _ _ Good (λ _. fine_if a.constant _ _ Good (λ _. grown m e g a.number (fit a.number (is_symbol plain live))) (λ _. tt)) (λ _.
-      fine_if (nat_lt 1 (length s.buffer) || a.constant) _ _ Good (λ _. tt) (λ _.
-      fine_if a.floated _ _ Good (λ _. tt) (λ _. grown m e g a.number (fit a.number (is_symbol plain live))))))
+      fine_if (nat_eq (length s.buffer) 0) _ _ Good (λ none. fine_if a.constant _ _ Good (λ _. grown m e g a.number (fit a.number (is_symbol plain live) (none_left (length s.buffer) none))) (λ _. tt)) (λ _.
+      fine_if (nat_lt 1 (length s.buffer) || a.constant) _ _ Good (λ _. tt) (λ off.
+      fine_if a.floated _ _ Good (λ _. tt) (λ _. grown m e g a.number (fit a.number (is_symbol plain live) (one_left (length s.buffer) a.constant off))))))
 
   a_constant_written : s.mode ≡ mode.Constants → ReadAt bytes read s mode.Constants → IsPlain bytes n → (p : ℕ) → IfFine (a_constant put s (look_back s.context (text_at bytes n)) (text_at bytes n) p) Good
   unfolding a_constant symbols
@@ -78,12 +98,12 @@ module _ (bytes : List ℕ) (read : List Noted) (s : State (List Event)) (n : No
       let x : Symbol = record { place = n; number = a.number } in
       fine_if (is_bad_symbol t) _ _ Good (λ _. tt) (λ _.
       fine_if (a.known || a.label) _ _ Good (λ _. tt) (λ _.
-      fine_if (is_full s) _ _ Good (λ _. tt) (λ _.
+      fine_if (is_full s) _ _ Good (λ _. tt) (λ room.
       subst (λ m. ReadAt bytes (read ++ (n ∷ [])) (record s { context = constant t a.number ∷ s.context; buffer = s.buffer ++ a.number ∷ [] }) m) (sym e) (record {
         phrases = g.phrases;
         begun = g.begun ++ (n ∷ []);
         done = one_text bytes (symbols s.context) (read ++ (n ∷ [])) g.phrases (g.begun ++ (n ∷ [])) t (one_token bytes (symbols s.context) read g.phrases g.begun g.done n);
-        now = declaring_more bytes (codes "$c") constant s.context g.phrases s.buffer g.begun x refl (record { plain = plain; named = declared_named s.context t }) g.now;
+        now = declaring_more bytes (codes "$c") constant s.context g.phrases s.buffer g.begun x refl (record { plain = plain; named = declared_named s.context t }) (has_room (length s.buffer) room) g.now;
       }))))
 
   a_variable_written : s.mode ≡ mode.Variables → ReadAt bytes read s mode.Variables → IsPlain bytes n → (p : ℕ) → IfFine (a_variable put s (look_back s.context (text_at bytes n)) (text_at bytes n) p) Good
@@ -94,19 +114,19 @@ module _ (bytes : List ℕ) (read : List Noted) (s : State (List Event)) (n : No
       let x : Symbol = record { place = n; number = a.number } in
       fine_if (is_bad_symbol t) _ _ Good (λ _. tt) (λ _.
       fine_if (a.active || a.constant || a.label) _ _ Good (λ _. tt) (λ _.
-      fine_if (is_full s) _ _ Good (λ _. tt) (λ _.
+      fine_if (is_full s) _ _ Good (λ _. tt) (λ room.
       subst (λ m. ReadAt bytes (read ++ (n ∷ [])) (record s { context = variable t a.number ∷ s.context; buffer = s.buffer ++ a.number ∷ [] }) m) (sym e) (record {
         phrases = g.phrases;
         begun = g.begun ++ (n ∷ []);
         done = one_text bytes (symbols s.context) (read ++ (n ∷ [])) g.phrases (g.begun ++ (n ∷ [])) t (one_token bytes (symbols s.context) read g.phrases g.begun g.done n);
-        now = declaring_more bytes (codes "$v") variable s.context g.phrases s.buffer g.begun x refl (record { plain = plain; named = declared_named s.context t }) g.now;
+        now = declaring_more bytes (codes "$v") variable s.context g.phrases s.buffer g.begun x refl (record { plain = plain; named = declared_named s.context t }) (has_room (length s.buffer) room) g.now;
       }))))
 
   -- one symbol more of a labelled statement
   stated : (keyword : List ℕ) (begun : List Noted) → Stating bytes keyword s.label s.described (symbols s.context) s.buffer begun
-      → (k : ℕ) → IsSymbol bytes (symbols s.context) (record { place = n; number = k })
+      → (k : ℕ) → IsSymbol bytes (symbols s.context) (record { place = n; number = k }) → length s.buffer < most_symbols
       → Stating bytes keyword s.label s.described (symbols s.context) (s.buffer ++ k ∷ []) (begun ++ (n ∷ []))
-  stated keyword begun st k is = stating_more bytes keyword s.label s.described (symbols s.context) s.buffer begun (record { place = n; number = k }) st is
+  stated keyword begun st k is room = stating_more bytes keyword s.label s.described (symbols s.context) s.buffer begun (record { place = n; number = k }) st is room
 
   pub at_text_written : (m : Mode) → s.mode ≡ m → ReadAt bytes read s m → IsPlain bytes n → (p : ℕ) → IfFine (at_text put s m (look_back s.context (text_at bytes n)) (text_at bytes n) p) Good
   unfolding at_text
@@ -116,11 +136,11 @@ module _ (bytes : List ℕ) (read : List Noted) (s : State (List Event)) (n : No
   at_text_written mode.Variables e g plain p = a_variable_written e g plain p
   at_text_written mode.Distinct e g plain p =
       a_distinct_written mode.Distinct e g plain
-      (λ k is. let x : Symbol = record { place = n; number = k } in ((g.now.0.0 ++ x ∷ [], listing_more bytes (codes "$d") (symbols s.context) s.buffer g.now.0.0 g.begun x g.now.0.1 is), g.now.1)) p
-  at_text_written mode.Float e g plain p = a_float_written mode.Float e g plain (λ k is. (stated (codes "$f") g.begun g.now.0 k is, g.now.1)) p
-  at_text_written mode.Essential e g plain p = a_symbol_written mode.Essential e g plain (λ k is. (stated (codes "$e") g.begun g.now.0 k is, g.now.1)) p
-  at_text_written mode.Axiom e g plain p = a_symbol_written mode.Axiom e g plain (λ k is. (stated (codes "$a") g.begun g.now.0 k is, g.now.1)) p
-  at_text_written mode.Theorem e g plain p = a_symbol_written mode.Theorem e g plain (λ k is. (stated (codes "$p") g.begun g.now.0 k is, g.now.1)) p
+      (λ k is room. let x : Symbol = record { place = n; number = k } in ((g.now.0.0 ++ x ∷ [], listing_more bytes (codes "$d") (symbols s.context) s.buffer g.now.0.0 g.begun x g.now.0.1 is room), g.now.1)) p
+  at_text_written mode.Float e g plain p = a_float_written mode.Float e g plain (λ k is room. (stated (codes "$f") g.begun g.now.0 k is room, g.now.1)) p
+  at_text_written mode.Essential e g plain p = a_symbol_written mode.Essential e g plain (λ k is room. (stated (codes "$e") g.begun g.now.0 k is room, g.now.1)) p
+  at_text_written mode.Axiom e g plain p = a_symbol_written mode.Axiom e g plain (λ k is room. (stated (codes "$a") g.begun g.now.0 k is room, g.now.1)) p
+  at_text_written mode.Theorem e g plain p = a_symbol_written mode.Theorem e g plain (λ k is room. (stated (codes "$p") g.begun g.now.0 k is room, g.now.1)) p
   at_text_written mode.Proof e g plain p = subst (λ m. ReadAt bytes (read ++ (n ∷ [])) s m) (sym e) (record {
     phrases = g.phrases;
     begun = g.begun ++ (n ∷ []);

@@ -1,15 +1,15 @@
 -- What has been written when so many tokens are read.
-use Rattle.std.proofs.Common.{◌≡◌, ◌<◌, ◌+◌, ℕ, List, [], ◌∷◌, ◌++◌, Option, All, length, map, flat_map, reverse, codes, refl, sym, ap, ◌∙◌, subst, append_assoc, append-nil}
+use Rattle.std.proofs.Common.{◌≡◌, ◌≤◌, ◌<◌, ◌+◌, ℕ, List, [], ◌∷◌, ◌++◌, Option, All, length, map, flat_map, reverse, codes, refl, sym, ap, ◌∙◌, subst, append_assoc, append-nil, arith, length-append}
 use Rattle.std.proofs.lemmas.List.{map_push, reverse-append, length-map}
 use Rattle.std.proofs.lemmas.List.Elements.{All-push, All-nil}
 use Rattle.std.proofs.lemmas.Grind.{flat_map-append}
 use Rattle.mm_tokens.specs.declared.pieces.Span.{Span}
 use Rattle.mm_names.specs.Texts.{with_text}
 use Rattle.mm_scope.specs.Events.{Event, constant, variable, symbols}
-use Rattle.mm_scope.specs.Steps.{State}
+use Rattle.mm_scope.specs.Steps.{State, most_symbols}
 use Rattle.mm_scope.specs.declared.mode.Mode.{Mode}
 use Rattle.mm_scope.specs.declared.mode.Mode.TheVariants as mode
-use Rattle.mm_grammar.specs.Phrases.{Noted, Symbol, Phrase, places, numbers, tokens, symbols_in, text_at, told, Reads, IsPlain, IsForm, IsSymbol}
+use Rattle.mm_grammar.specs.Phrases.{Noted, Symbol, Phrase, places, numbers, tokens, symbols_in, text_at, told, Reads, IsPlain, IsLabel, IsForm, IsSymbol}
 use Rattle.mm_grammar.proofs.Known.{kept_named}
 
 abbrev pub AreSymbols : List ℕ → List (List ℕ) → List Symbol → Type 0
@@ -61,12 +61,13 @@ pub record Listing (bytes keyword : List ℕ) (all : List (List ℕ)) (buffer : 
   pub reads : Reads bytes first keyword
   pub stands : begun ≡ first ∷ places listed
   pub numbered : buffer ≡ numbers listed
+  pub few : length buffer ≤ most_symbols
   pub named : AreSymbols bytes all listed
 
 -- its label
 pub record Labelling (bytes label : List ℕ) (described : Option Span) (begun rest : List Noted) : Type 0 where
   pub name : Noted
-  pub plain : IsPlain bytes name
+  pub is : IsLabel bytes name
   pub text : label ≡ text_at bytes name
   pub comment : described ≡ name.comment
   pub stands : begun ≡ name ∷ rest
@@ -105,16 +106,18 @@ listing_begun bytes keyword all begun n none reads = record {
   reads = reads;
   stands = ap (λ b. b ++ (n ∷ [])) none;
   numbered = refl;
+  few = omega arith;
   named = All-nil (IsSymbol bytes all);
 }
 
 pub listing_more : (bytes keyword : List ℕ) (all : List (List ℕ)) (buffer : List ℕ) (listed : List Symbol) (begun : List Noted) (x : Symbol)
-    → Listing bytes keyword all buffer listed begun → IsSymbol bytes all x → Listing bytes keyword all (buffer ++ x.number ∷ []) (listed ++ x ∷ []) (begun ++ x.place ∷ [])
-listing_more bytes keyword all buffer listed begun x l is = record {
+    → Listing bytes keyword all buffer listed begun → IsSymbol bytes all x → length buffer < most_symbols → Listing bytes keyword all (buffer ++ x.number ∷ []) (listed ++ x ∷ []) (begun ++ x.place ∷ [])
+listing_more bytes keyword all buffer listed begun x l is room = record {
   first = l.first;
   reads = l.reads;
   stands = ap (λ b. b ++ x.place ∷ []) l.stands ∙ ap (λ xs. l.first ∷ xs) (sym (map_push (λ (s : Symbol). s.place) listed x));
   numbered = ap (λ b. b ++ x.number ∷ []) l.numbered ∙ sym (map_push (λ (s : Symbol). s.number) listed x);
+  few = omega (arith, room, length-append buffer (x.number ∷ []));
   named = All-push (IsSymbol bytes all) listed x l.named is;
 }
 
@@ -123,15 +126,15 @@ as_long buffer ss e = ap length e ∙ length-map ss (λ (s : Symbol). s.number)
 
 pub labelling_more : (bytes label : List ℕ) (described : Option Span) (begun rest : List Noted) (n : Noted)
     → Labelling bytes label described begun rest → Labelling bytes label described (begun ++ (n ∷ [])) (rest ++ (n ∷ []))
-labelling_more bytes label described begun rest n l = record { name = l.name; plain = l.plain; text = l.text; comment = l.comment; stands = ap (λ b. b ++ (n ∷ [])) l.stands }
+labelling_more bytes label described begun rest n l = record { name = l.name; is = l.is; text = l.text; comment = l.comment; stands = ap (λ b. b ++ (n ∷ [])) l.stands }
 
 pub stating_more : (bytes keyword label : List ℕ) (described : Option Span) (all : List (List ℕ)) (buffer : List ℕ) (begun : List Noted) (x : Symbol)
-    → Stating bytes keyword label described all buffer begun → IsSymbol bytes all x → Stating bytes keyword label described all (buffer ++ x.number ∷ []) (begun ++ (x.place ∷ []))
-stating_more bytes keyword label described all buffer begun x s is = record {
+    → Stating bytes keyword label described all buffer begun → IsSymbol bytes all x → length buffer < most_symbols → Stating bytes keyword label described all (buffer ++ x.number ∷ []) (begun ++ (x.place ∷ []))
+stating_more bytes keyword label described all buffer begun x s is room = record {
   rest = s.rest ++ (x.place ∷ []);
   listed = s.listed ++ x ∷ [];
   labelling = labelling_more bytes label described begun s.rest x.place s.labelling;
-  listing = listing_more bytes keyword all buffer s.listed s.rest x s.listing is;
+  listing = listing_more bytes keyword all buffer s.listed s.rest x s.listing is room;
 }
 
 pub proving_more : (bytes label : List ℕ) (described : Option Span) (all : List (List ℕ)) (buffer : List ℕ) (from : ℕ) (begun : List Noted) (n : Noted)
@@ -150,11 +153,11 @@ proving_more bytes label described all buffer from begun n p plain = record {
 
 pub declaring_more : (bytes keyword : List ℕ) (event : List ℕ → ℕ → Event) (past : List Event) (ps : List Phrase) (buffer : List ℕ) (begun : List Noted) (x : Symbol)
     → symbols (event (text_at bytes x.place) x.number ∷ past) ≡ with_text (symbols past) (text_at bytes x.place)
-    → IsSymbol bytes (with_text (symbols past) (text_at bytes x.place)) x → Declaring bytes keyword event past ps buffer begun
+    → IsSymbol bytes (with_text (symbols past) (text_at bytes x.place)) x → length buffer < most_symbols → Declaring bytes keyword event past ps buffer begun
     → Declaring bytes keyword event (event (text_at bytes x.place) x.number ∷ past) ps (buffer ++ x.number ∷ []) (begun ++ (x.place ∷ []))
-declaring_more bytes keyword event past ps buffer begun x same is d = record {
+declaring_more bytes keyword event past ps buffer begun x same is room d = record {
   listed = d.listed ++ x ∷ [];
-  listing = subst (λ all. Listing bytes keyword all (buffer ++ x.number ∷ []) (d.listed ++ x ∷ []) (begun ++ x.place ∷ [])) (sym same) (listing_more bytes keyword (with_text (symbols past) (text_at bytes x.place)) buffer d.listed begun x l is);
+  listing = subst (λ all. Listing bytes keyword all (buffer ++ x.number ∷ []) (d.listed ++ x ∷ []) (begun ++ x.place ∷ [])) (sym same) (listing_more bytes keyword (with_text (symbols past) (text_at bytes x.place)) buffer d.listed begun x l is room);
   said = ap (λ q. told_by bytes event x ∷ q) d.said ∙ ap (λ q. q ++ past_of bytes ps) (sym (ap reverse (map_push (told_by bytes event) d.listed x) ∙ reverse-append (map (told_by bytes event) d.listed) (told_by bytes event x ∷ [])));
 }
   where
@@ -164,6 +167,7 @@ declaring_more bytes keyword event past ps buffer begun x same is d = record {
       reads = d.listing.reads;
       stands = d.listing.stands;
       numbered = d.listing.numbered;
+      few = d.listing.few;
       named = symbols_kept bytes (symbols past) (text_at bytes x.place) d.listed d.listing.named;
     }
 

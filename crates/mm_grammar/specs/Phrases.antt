@@ -7,6 +7,8 @@ use Rattle.mm_tokens.specs.declared.pieces.Piece.TheVariants.{Token, Comment, Op
 use Rattle.mm_scope.specs.Events.{Event}
 use Rattle.mm_scope.specs.Events as event
 use Rattle.mm_scope.specs.Reading.{text_of}
+use Rattle.mm_scope.specs.Steps.{most_symbols}
+use Rattle.mm_words.specs.Words.{is_bad_label}
 
 -- a token outside comments, and the last comment between the token before it and it
 pub record Noted : Type 0 where
@@ -90,16 +92,25 @@ Reads bytes n keyword = text_at bytes n ≡ keyword
 abbrev pub IsPlain : List ℕ → Noted → Type 0
 IsPlain bytes n = (slice_index (text_at bytes n) 0 == 36) ≡ false
 
--- it has its keywords, and symbols enough
+-- a label has letters, digits, `-`, `_` and `.` alone, and at most 255
+pub record IsLabel (bytes : List ℕ) (n : Noted) : Type 0 where
+  pub fit : is_bad_label (text_at bytes n) ≡ false
+  pub short : length (text_at bytes n) ≤ 255
+
+-- so many symbols at least, and at most 32,768
+abbrev pub AreEnough : ℕ → List Symbol → Type 0
+AreEnough least ss = (least ≤ length ss) × (length ss ≤ most_symbols)
+
+-- it has its keywords, its label and symbols enough
 abbrev pub IsForm : List ℕ → Phrase → Type 0
-IsForm bytes (constants k ss e) = Reads bytes k (codes "$c") × (1 ≤ length ss) × Reads bytes e (codes "$.")
-IsForm bytes (variables k ss e) = Reads bytes k (codes "$v") × (1 ≤ length ss) × Reads bytes e (codes "$.")
-IsForm bytes (distinct k ss e) = Reads bytes k (codes "$d") × (2 ≤ length ss) × Reads bytes e (codes "$.")
-IsForm bytes (float l k ss e) = IsPlain bytes l × Reads bytes k (codes "$f") × (length ss ≡ 2) × Reads bytes e (codes "$.")
-IsForm bytes (essential l k ss e) = IsPlain bytes l × Reads bytes k (codes "$e") × (1 ≤ length ss) × Reads bytes e (codes "$.")
-IsForm bytes (asserted l k ss e) = IsPlain bytes l × Reads bytes k (codes "$a") × (1 ≤ length ss) × Reads bytes e (codes "$.")
+IsForm bytes (constants k ss e) = Reads bytes k (codes "$c") × AreEnough 1 ss × Reads bytes e (codes "$.")
+IsForm bytes (variables k ss e) = Reads bytes k (codes "$v") × AreEnough 1 ss × Reads bytes e (codes "$.")
+IsForm bytes (distinct k ss e) = Reads bytes k (codes "$d") × AreEnough 2 ss × Reads bytes e (codes "$.")
+IsForm bytes (float l k ss e) = IsLabel bytes l × Reads bytes k (codes "$f") × (length ss ≡ 2) × Reads bytes e (codes "$.")
+IsForm bytes (essential l k ss e) = IsLabel bytes l × Reads bytes k (codes "$e") × AreEnough 1 ss × Reads bytes e (codes "$.")
+IsForm bytes (asserted l k ss e) = IsLabel bytes l × Reads bytes k (codes "$a") × AreEnough 1 ss × Reads bytes e (codes "$.")
 IsForm bytes (theorem l k ss q proof e) =
-    IsPlain bytes l × Reads bytes k (codes "$p") × (1 ≤ length ss) × Reads bytes q (codes "$=") × All (IsPlain bytes) proof × Reads bytes e (codes "$.")
+    IsLabel bytes l × Reads bytes k (codes "$p") × AreEnough 1 ss × Reads bytes q (codes "$=") × All (IsPlain bytes) proof × Reads bytes e (codes "$.")
 IsForm bytes (opened k) = Reads bytes k (codes "${")
 IsForm bytes (closed k) = Reads bytes k (codes "$}")
 
