@@ -1,5 +1,5 @@
 -- What looking back answers of a text.
-use Rattle.std.proofs.Common.{◌≡◌, ◌≤◌, ◌<◌, ℕ, Bool, true, false, cond, not, ◌&&◌, ◌||◌, List, [], ◌∷◌, ◌++◌, Option, None, Some, length, position, nat_eq, refl, sym, ◌∙◌, subst, arith, length-append, inl, inr}
+use Rattle.std.proofs.Common.{◌≡◌, ◌≤◌, ◌<◌, ℕ, Bool, true, false, cond, not, ◌&&◌, ◌||◌, List, [], ◌∷◌, ◌++◌, Option, None, Some, length, position, nat_eq, refl, sym, ◌∙◌, ap, subst, arith, length-append, inl, inr}
 use Rattle.std.proofs.lemmas.Bool.{eqb-true, true≢false, false≢true, not-false}
 use Rattle.std.proofs.lemmas.List.{nil_from_length}
 use Rattle.std.proofs.lemmas.Option.{slice_get_within}
@@ -22,7 +22,7 @@ no_fewer : (b : Bool) (ts : List (List ℕ)) (t : List ℕ) → length ts ≤ le
 no_fewer true ts t = omega arith
 no_fewer false ts t = omega (arith, length-append ts (t ∷ []))
 
-grows : (e : Event) (past : List Event) → length (symbols past) ≤ length (symbols (e ∷ past))
+pub grows : (e : Event) (past : List Event) → length (symbols past) ≤ length (symbols (e ∷ past))
 unfolding symbols
 grows (constant t n) past = no_fewer (list_any (bytes_eq t) (symbols past)) (symbols past) t
 grows (variable t n) past = no_fewer (list_any (bytes_eq t) (symbols past)) (symbols past) t
@@ -40,13 +40,13 @@ module _ (n : ℕ) (d : Event) (earlier : List Event) (here : IsAsked earlier d 
   within [] r = here r.0
   within (e ∷ later) r = omega (arith, within later r.1, grows e (later ++ d ∷ earlier))
 
-constant_within : (past : List Event) (n : ℕ) → FollowsRules past → IsConstant past n → n < length (symbols past)
+pub constant_within : (past : List Event) (n : ℕ) → FollowsRules past → IsConstant past n → n < length (symbols past)
 unfolding symbols
 constant_within past n r f =
     subst (λ q. n < length (symbols q)) (sym f.whole)
     (within n (constant f.text n) f.earlier (λ a. slice_get_within (with_text (symbols f.earlier) f.text) n f.text a.named) f.later (subst FollowsRules f.whole r))
 
-variable_within : (past : List Event) (n : ℕ) → FollowsRules past → IsInScope past n → n < length (symbols past)
+pub variable_within : (past : List Event) (n : ℕ) → FollowsRules past → IsInScope past n → n < length (symbols past)
 unfolding symbols
 variable_within past n r f =
     subst (λ q. n < length (symbols q)) (sym f.whole)
@@ -130,3 +130,15 @@ module _ (past : List Event) (t : List ℕ) where
     where
       some : (k : ℕ) → not (nat_eq k 0) ≡ true → 0 < k
       some k g = grind (arith, g)
+
+  pub shallow_now : open_blocks past ≡ [] → (look_back past t).deep ≡ false
+  shallow_now e = deep_as (position (bytes_eq t) (symbols past)) ∙ ap (λ ps. not (nat_eq (length ps) 0)) e
+
+  pub deep_now : 0 < length (open_blocks past) → (look_back past t).deep ≡ true
+  deep_now some = deep_as (position (bytes_eq t) (symbols past)) ∙ no_zero (length (open_blocks past)) some
+    where
+      no_zero : (k : ℕ) → 0 < k → not (nat_eq k 0) ≡ true
+      no_zero k g = grind (arith, g)
+
+  pub label_now : IsNew (labels past) t → (look_back past t).label ≡ false
+  label_now new = label_as (position (bytes_eq t) (symbols past)) ∙ new

@@ -1,16 +1,21 @@
 mod Keywords
-mod Noting
 mod Known
-mod Writing
-mod Symbols
-mod Ends
-mod Steps
-pub mod Written
 mod Scoping
 mod Answering
 mod Begun
 pub mod Following
 pub mod Closing
+mod Noting
+mod Writing
+mod Symbols
+mod Ends
+mod Steps
+pub mod Written
+mod Numbering
+mod Going
+mod Taking
+mod Saying
+pub mod Readable
 mod Floating
 pub mod Substituting
 mod Parting

@@ -15,8 +15,9 @@ use Rattle.mm_scope.specs.declared.mode.Mode.TheVariants as mode
 use Rattle.mm_forms.proofs.Fine.{IfFine, fine_if}
 use Rattle.mm_grammar.specs.Phrases.{Noted, Phrase, text_at, Reads, IsPlain, IsSymbol}
 use Rattle.mm_grammar.specs.Phrases as phrase
+use Rattle.mm_grammar.specs.Readable.{past_of}
 use Rattle.mm_grammar.proofs.Keywords.{Spells, spelled}
-use Rattle.mm_grammar.proofs.Writing.{past_of, past_push, one_token, one_phrase, Labelling, Stating, listing_begun, labelling_more, Begun, ReadAt}
+use Rattle.mm_grammar.proofs.Writing.{past_push, one_token, one_phrase, Labelling, Stating, listing_begun, labelling_more, Begun, ReadAt}
 use Rattle.mm_grammar.proofs.Symbols.{at_text_written}
 use Rattle.mm_grammar.proofs.Ends.{at_end_written}
 

@@ -10,14 +10,11 @@ use Rattle.mm_scope.specs.Steps.{State, most_symbols}
 use Rattle.mm_scope.specs.declared.mode.Mode.{Mode}
 use Rattle.mm_scope.specs.declared.mode.Mode.TheVariants as mode
 use Rattle.mm_grammar.specs.Phrases.{Noted, Symbol, Phrase, places, numbers, tokens, symbols_in, text_at, told, Reads, IsPlain, IsLabel, IsForm, IsSymbol}
+use Rattle.mm_grammar.specs.Readable.{past_of}
 use Rattle.mm_grammar.proofs.Known.{kept_named}
 
 abbrev pub AreSymbols : List ℕ → List (List ℕ) → List Symbol → Type 0
 AreSymbols bytes all ss = All (IsSymbol bytes all) ss
-
--- what the statements say, the newest first
-abbrev pub past_of : List ℕ → List Phrase → List Event
-past_of bytes ps = reverse (flat_map (told bytes) ps)
 
 flat_push : {A : Type 0} (f : Phrase → List A) (ps : List Phrase) (p : Phrase) → flat_map f (ps ++ (p ∷ [])) ≡ flat_map f ps ++ f p
 flat_push f ps p = flat_map-append f ps (p ∷ []) ∙ ap (λ l. flat_map f ps ++ l) (append-nil (f p))

@@ -4,7 +4,7 @@ use Rattle.std.proofs.lemmas.Bool.{false≢true}
 use Rattle.std.proofs.lemmas.List.{take_all}
 use Rattle.mm_tokens.specs.Bytes.{is_bad}
 use Rattle.mm_tokens.specs.Pieces.{pieces_of, open_in}
-use Rattle.mm_scope.specs.Contents.{is_read, events_in, events_of, symbols_of}
+use Rattle.mm_scope.specs.Contents.{is_read, events_in, events_of}
 use Rattle.mm_scope.specs.Databases.{nothing_read, at_the_end, unless_open, unless_begun, database_of}
 use Rattle.mm_scope.specs.Events.{Event, put, open_blocks, symbols}
 use Rattle.mm_scope.specs.Judged.{most_bytes, is_long, judged, before_bad, clean}
@@ -16,7 +16,12 @@ use Rattle.mm_scope.specs.declared.mode.Mode.{Mode}
 use Rattle.mm_scope.specs.declared.mode.Mode.TheVariants as mode
 use Rattle.mm_forms.proofs.Fine.{IfFine}
 use Rattle.mm_grammar.specs.Phrases.{Noted, noted_from, tokens, symbols_in}
+use Rattle.mm_scope.proofs.ContentsLemmas.{is_read-length}
+use Rattle.mm_grammar.specs.Readable.{past_of}
+use Rattle.mm_grammar.specs.Rules.{FollowsRules}
 use Rattle.mm_grammar.specs.Written.{IsWritten}
+use Rattle.mm_grammar.proofs.Closing.{all_closed}
+use Rattle.mm_grammar.proofs.Following.{followed}
 use Rattle.mm_grammar.proofs.Noting.{tokens_noted, fine_noted}
 use Rattle.mm_grammar.proofs.Steps.{kept}
 use Rattle.mm_grammar.proofs.Writing.{AreSymbols, none_done, ReadAt}
@@ -50,7 +55,7 @@ module _ (bytes : List ℕ) (read : List Noted) (s : State (List Event)) (g : Re
 within : (k n : ℕ) → nat_lt k n ≡ false → n ≤ k
 within k n h = grind (arith, h)
 
-all_judged : (bytes : List ℕ) → is_long bytes ≡ false → judged bytes ≡ bytes
+pub all_judged : (bytes : List ℕ) → is_long bytes ≡ false → judged bytes ≡ bytes
 all_judged bytes h = take_all 134217729 bytes (omega (arith, within most_bytes (length bytes) h))
 
 whole_text : (bytes : List ℕ) → position is_bad (judged bytes) ≡ None → is_long bytes ≡ false → clean (judged bytes) ≡ bytes
@@ -59,7 +64,8 @@ whole_text bytes none short = ap (before_bad (judged bytes)) none ∙ all_judged
 -- a database is read: all its tokens are written, and no comment is open
 record IsAllRead (bytes : List ℕ) (past : List Event) : Type 0 where
   written : Whole bytes (noted_from None (pieces_of bytes)) past
-  closed : open_in (pieces_of bytes) ≡ None
+  clean : position is_bad bytes ≡ None
+  ended : open_in (pieces_of bytes) ≡ None
 
 module _ (bytes : List ℕ) where
   abbrev text : List ℕ
@@ -70,7 +76,7 @@ module _ (bytes : List ℕ) where
       → IfFine r (IsAllRead bytes)
   all_read (Ok past) w =
       let e = whole_text bytes w.1 w.2 in
-      record { written = subst (λ b. Whole b (noted_from None (pieces_of b)) past) e w.0; closed = ap (λ b. open_in (pieces_of b)) (sym e) ∙ w.3 }
+      record { written = subst (λ b. Whole b (noted_from None (pieces_of b)) past) e w.0; clean = ap (position is_bad) (sym (all_judged bytes w.2)) ∙ w.1; ended = ap (λ b. open_in (pieces_of b)) (sym e) ∙ w.3 }
   all_read (Err f) w = tt
 
   read_on : (r : Result (State (List Event)) ReadFault) → IfFine r (λ t. ReadAt text (noted_from None (pieces_of text)) t t.mode)
@@ -90,25 +96,32 @@ module _ (bytes : List ℕ) where
       (fine_noted text (λ read t. ReadAt text read t t.mode) (λ read t c g. record { phrases = g.phrases; begun = g.begun; done = g.done; now = g.now })
       (λ read t g. record { phrases = g.phrases; begun = g.begun; done = g.done; now = g.now }) (kept text) (pieces_of text) [] nothing_read nothing_written)
 
-  of_read : (past : List Event) → events_of bytes ≡ past → IsAllRead bytes past → IsWritten bytes
-  unfolding symbols_of
-  of_read past e r =
+  of_read : (past : List Event) → is_read bytes ≡ true → events_of bytes ≡ past → IsAllRead bytes past → IsWritten bytes
+  of_read past ok e r =
       let g : Whole bytes (noted_from None (pieces_of bytes)) past = r.written in
       let whole = sym (g.done.whole ∙ ap (λ b. flat_map tokens g.phrases ++ b) g.now.0 ∙ append-nil (flat_map tokens g.phrases)) in
+      let said : past_of bytes g.phrases ≡ events_of bytes = sym g.now.1 ∙ sym e in
       record {
         phrases = g.phrases;
-        whole = whole;
-        outside = ap (map (λ (n : Noted). n.token)) whole ∙ tokens_noted None (pieces_of bytes) r.closed;
-        formed = g.done.formed;
-        named = subst (λ all. All (λ p. AreSymbols bytes all (symbols_in p)) g.phrases) (ap symbols (sym e)) g.done.named;
-        said = sym g.now.1 ∙ sym e;
+        readable = record {
+          short = is_read-length bytes ok;
+          clean = r.clean;
+          ended = r.ended;
+          whole = whole;
+          formed = g.done.formed;
+          named = subst (λ all. All (λ p. AreSymbols bytes all (symbols_in p)) g.phrases) (ap symbols g.now.1) g.done.named;
+          asked = subst FollowsRules (sym said) (followed bytes);
+          closed = ap open_blocks said ∙ all_closed bytes;
+        };
+        outside = ap (map (λ (n : Noted). n.token)) whole ∙ tokens_noted None (pieces_of bytes) r.ended;
+        said = said;
       }
 
-  by_result : (r : Result (List Event) ReadFault) → database_of bytes ≡ r → IfFine r (IsAllRead bytes) → is_ok r ≡ true → IsWritten bytes
+  by_result : (r : Result (List Event) ReadFault) → database_of bytes ≡ r → IfFine r (IsAllRead bytes) → is_read bytes ≡ true → is_ok r ≡ true → IsWritten bytes
   unfolding events_of
-  by_result (Ok past) e w ok = of_read past (ap events_in e) w
-  by_result (Err f) e w ok = absurd (false≢true ok)
+  by_result (Ok past) e w read ok = of_read past read (ap events_in e) w
+  by_result (Err f) e w read ok = absurd (false≢true ok)
 
   pub written : is_read bytes ≡ true → IsWritten bytes
   unfolding is_read
-  written ok = by_result (database_of bytes) refl database_read ok
+  written ok = by_result (database_of bytes) refl database_read ok ok

@@ -1,4 +1,5 @@
 pub mod Phrases
+pub mod Rules
+pub mod Readable
 pub mod Written
 pub mod Apart
-pub mod Rules

@@ -2,9 +2,12 @@
 
 ghost use Rattle.std.specs.Prelude.{◌≡◌, ℕ, true, List, [], All, Ok};
 ghost use Rattle.mm_scope.specs.Contents.{is_read, events_of, labels_of, stated_at};
+ghost use Rattle.mm_scope.specs.Databases.{database_of};
 ghost use Rattle.mm_scope.specs.Events.{open_blocks};
 ghost use Rattle.mm_stack.specs.Running.{applied};
 ghost use Rattle.mm_stack.specs.Laws.{AreApart, Substitutes, hypotheses_of, variables_of};
+ghost use Rattle.mm_grammar.specs.Phrases.{Phrase};
+ghost use Rattle.mm_grammar.specs.Readable.{IsReadable, past_of};
 ghost use Rattle.mm_grammar.specs.Written.{IsWritten};
 ghost use Rattle.mm_grammar.specs.Rules.{FollowsRules};
 ghost use Rattle.mm_grammar.specs.Apart.{IsNoSymbol};
@@ -15,6 +18,14 @@ use mm_stack::assertions_substitute;
 /// language (Metamath book, section 4.1 and Appendix E). What the database says is what they say, one after another.
 pub fn statements_are_the_tokens(bytes: &[u8])
     ensures { is_read bytes.now ≡ true → IsWritten bytes.now }
+{
+    let _ = bytes;
+}
+
+/// And only such files are read: a file of statements, each of one of the forms and as the language asks, given what stands
+/// before it, is read, and says what they say.
+pub fn files_of_statements_are_read(bytes: &[u8])
+    ensures { (phrases : List Phrase) → IsReadable bytes.now phrases → database_of bytes.now ≡ Ok (past_of bytes.now phrases) }
 {
     let _ = bytes;
 }
