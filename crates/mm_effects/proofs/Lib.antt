@@ -7,3 +7,4 @@ mod AssignLemmas
 pub mod SoundLemmas
 mod CompleteLemmas
 pub mod SavesLemmas
+pub mod ReadingLemmas

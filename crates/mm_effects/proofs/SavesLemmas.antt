@@ -36,7 +36,7 @@ either : (P : Quiet → Type 0) (b : Bool) (q r : Quiet) → P q → P r → P (
 either P true q r p s = p
 either P false q r p s = s
 
-same_bytes : (a b : List ℕ) → (let x : Option (List ℕ) = Some a in x) ≡ Some b → a ≡ b
+pub same_bytes : (a b : List ℕ) → (let x : Option (List ℕ) = Some a in x) ≡ Some b → a ≡ b
 same_bytes a b e = cc
 
 -- ## What a save comes to
@@ -105,7 +105,7 @@ save_changes s q bytes is (Enters old hand was in_hand fine enters) =
 -- ## What the other commands leave alone
 
 -- the database stays
-abbrev Keeps : State → Quiet → Type 0
+abbrev pub Keeps : State → Quiet → Type 0
 Keeps s q = q.state.database ≡ s.database
 
 read_keeps : (s : State) (database : Option (List ℕ)) (map : Map) (name bytes : List ℕ) → database ≡ Some bytes → (read_with s database map name).state.database ≡ s.database
@@ -116,7 +116,7 @@ read_leaves : (s : State) (held : Option Hand) (map : Map) (name bytes : List �
 read_leaves s (Some hand) map name bytes is = refl
 read_leaves s None map name bytes is = read_keeps s s.database map name bytes is
 
-write_keeps : (s : State) (database : Option (List ℕ)) (name : List ℕ) → (write_effect s database name).state.database ≡ s.database
+pub write_keeps : (s : State) (database : Option (List ℕ)) (name : List ℕ) → (write_effect s database name).state.database ≡ s.database
 write_keeps s None name = refl
 write_keeps s (Some bytes) name = refl
 
@@ -140,7 +140,7 @@ prove_with_keeps : (s : State) (database : Option (List ℕ)) (label : List ℕ)
 prove_with_keeps s None label guarded_too = refl
 prove_with_keeps s (Some bytes) label guarded_too = found_keeps s label guarded_too bytes (find_label bytes label)
 
-prove_keeps : (s : State) (held : Option Hand) (label : List ℕ) (guarded_too : Bool) → Keeps s (prove_effect s held label guarded_too)
+pub prove_keeps : (s : State) (held : Option Hand) (label : List ℕ) (guarded_too : Bool) → Keeps s (prove_effect s held label guarded_too)
 prove_keeps s (Some hand) label guarded_too = refl
 prove_keeps s None label guarded_too = prove_with_keeps s s.database label guarded_too
 
@@ -149,13 +149,21 @@ assign_with_keeps s (Some bytes) (Some hand) label guarded_too = refl
 assign_with_keeps s (Some bytes) None label guarded_too = refl
 assign_with_keeps s None held label guarded_too = refl
 
-assign_keeps : (s : State) (step : StepWord) (label : List ℕ) (guarded_too : Bool) → Keeps s (assign_effect s step label guarded_too)
+pub assign_keeps : (s : State) (step : StepWord) (label : List ℕ) (guarded_too : Bool) → Keeps s (assign_effect s step label guarded_too)
 assign_keeps s Last label guarded_too = assign_with_keeps s s.database s.hand label guarded_too
 assign_keeps s step label guarded_too = refl
 
-exit_keeps : (s : State) (held : Option Hand) (force : Bool) → Keeps s (exit_effect s held force)
+pub exit_keeps : (s : State) (held : Option Hand) (force : Bool) → Keeps s (exit_effect s held force)
 exit_keeps s (Some hand) force = either (Keeps s) (hand.changed && not force) (fixed_refusal not_saved_text s) (silent (record s { hand = None })) refl refl
 exit_keeps s None force = either (Keeps s) (s.unwritten && not force) (fixed_refusal not_written_text s) (silent (record s { ended = true })) refl refl
+
+-- where there is none, a save brings none
+save_none : (s : State) (q : Quiet) → s.database ≡ None → Comes s q → Keeps s q
+save_none s q none (Stays refused same) = same
+save_none s q none (Enters bytes hand was in_hand fine enters) = let no : (let x : Option (List ℕ) = None in x) ≡ Some bytes = sym none ∙ was in cc
+
+pub save_keeps : (s : State) (normal compressed guarded_too : Bool) → s.database ≡ None → Keeps s (save_effect s normal compressed guarded_too)
+save_keeps s normal compressed guarded_too none = save_none s (save_effect s normal compressed guarded_too) none (save_comes s normal compressed guarded_too)
 
 -- ## A database changes by saves alone
 

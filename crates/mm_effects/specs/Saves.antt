@@ -63,3 +63,14 @@ OnlySavesChange = (asked : Asked) (state : State) (map : Map) (outcome : Outcome
 -- What is put into the files is the database.
 abbrev pub PutsTheDatabase : Type 0
 PutsTheDatabase = (asked : Asked) (state : State) (map : Map) (outcome : Outcome) (put : List ℕ × List ℕ) → (effect_on asked state map outcome).put ≡ Some put → state.database ≡ Some put.1
+
+-- what is asked reads a file of these bytes
+pub record IsReading (asked : Asked) (map : Map) (bytes : List ℕ) : Type 0 where
+  pub name : List ℕ
+  pub is : asked ≡ Asks (meaning.Read name)
+  pub found : map name ≡ Some bytes
+
+-- Where there was no database, one comes by READ alone, and is what the file holds.
+abbrev pub DatabasesComeByReading : Type 0
+DatabasesComeByReading = (asked : Asked) (state : State) (map : Map) (outcome : Outcome) (bytes : List ℕ) → state.database ≡ None
+    → (effect_on asked state map outcome).state.database ≡ Some bytes → IsReading asked map bytes
