@@ -22,8 +22,8 @@ pub fn statements_are_the_tokens(bytes: &[u8])
     let _ = bytes;
 }
 
-/// And only such files are read: a file of statements, each of one of the forms and as the language asks, given what stands
-/// before it, is read, and says what they say.
+/// A file of statements, each of one of the forms and as the language asks, given what stands before it, is read, and says
+/// what they say. So these are exactly the files that are read.
 pub fn files_of_statements_are_read(bytes: &[u8])
     ensures { (phrases : List Phrase) → IsReadable bytes.now phrases → database_of bytes.now ≡ Ok (past_of bytes.now phrases) }
 {
@@ -31,8 +31,9 @@ pub fn files_of_statements_are_read(bytes: &[u8])
 }
 
 /// Each declaration, each statement and each end of a block is as the language asks, given what stands before it
-/// (Metamath book, sections 4.1.3 and 4.2): a declared symbol and a label are new, a symbol that is used is active, a `$f`
-/// types a variable once, and a variable of an expression is typed. And all blocks are closed.
+/// (Metamath book, sections 4.1.3 and 4.2): a declared constant and a label are new, a declared variable is not active, a
+/// symbol that is used is active, a `$f` types a variable once, and a variable of an expression is typed. And all blocks
+/// are ended.
 pub fn rules_are_followed(bytes: &[u8])
     ensures followed { FollowsRules (events_of bytes.now) }
     ensures closed { open_blocks (events_of bytes.now) ≡ [] }
