@@ -13,10 +13,6 @@ use Rattle.mm_grammar.specs.Rules.{HasFloat, IsTyped, IsNew, IsAsked, FollowsRul
 use Rattle.mm_grammar.proofs.Known.{not_there}
 use Rattle.mm_grammar.proofs.Scoping.{in_scope, active_in_scope, has_float, floated_in_scope, is_constant, constant_in}
 
-pub neither : (a b : Bool) → (a || b) ≡ false → (a ≡ false) × (b ≡ false)
-neither true b h = absurd (true≢false h)
-neither false b h = (refl, h)
-
 -- a text more leaves no fewer
 no_fewer : (b : Bool) (ts : List (List ℕ)) (t : List ℕ) → length ts ≤ length (cond b ts (ts ++ t ∷ []))
 no_fewer true ts t = omega arith

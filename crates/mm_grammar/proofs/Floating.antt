@@ -1,7 +1,7 @@
 -- The active `$f` of a database have variables that differ, and so have the mandatory ones of each assertion.
 use Rattle.std.proofs.Common.{◌≡◌, ◌<◌, ℕ, zero, suc, Bool, true, false, cond, ◌||◌, List, [], ◌∷◌, ◌++◌, Option, None, Some, All, length, get_or, slice_index, nat_eq, filter, filter_map, refl, sym, ap, ◌∙◌, subst, arith, length-append, append-nil, ◌≤◌}
 use Rattle.std.proofs.Math.Seq.{get_or-append_seam}
-use Rattle.std.proofs.lemmas.Bool.{true≢false}
+use Rattle.std.proofs.lemmas.Bool.{or_from, or_parts, false_from_ne_true}
 use Rattle.std.proofs.lemmas.List.{get_or_append_left}
 use Rattle.std.proofs.lemmas.List.Elements.{All-push, All-nil, filter_map-append}
 use Rattle.std.proofs.lemmas.List.Folds.{list_any-append}
@@ -25,24 +25,16 @@ abbrev pub AreSingle : List ℕ → Type 0
 AreSingle [] = Unit {0}
 AreSingle (n ∷ ns) = (list_any (nat_eq n) ns ≡ false) × AreSingle ns
 
-or_none : (a b : Bool) → a ≡ false → b ≡ false → (a || b) ≡ false
-or_none true b h g = absurd (true≢false h)
-or_none false b h g = g
-
-neither : (a b : Bool) → (a || b) ≡ false → (a ≡ false) × (b ≡ false)
-neither true b h = absurd (true≢false h)
-neither false b h = (refl, h)
-
 swapped : (m n : ℕ) → nat_eq m n ≡ false → nat_eq n m ≡ false
 swapped m n h = grind (arith, h)
 
 none_pushed : (n m : ℕ) (ns : List ℕ) → list_any (nat_eq n) ns ≡ false → nat_eq n m ≡ false → list_any (nat_eq n) (ns ++ m ∷ []) ≡ false
-none_pushed n m ns h g = list_any-append (nat_eq n) ns (m ∷ []) ∙ or_none (list_any (nat_eq n) ns) (nat_eq n m || false) h (or_none (nat_eq n m) false g refl)
+none_pushed n m ns h g = list_any-append (nat_eq n) ns (m ∷ []) ∙ or_from (list_any (nat_eq n) ns) (nat_eq n m || false) h (or_from (nat_eq n m) false g refl)
 
 single_pushed : (ns : List ℕ) (m : ℕ) → AreSingle ns → list_any (nat_eq m) ns ≡ false → AreSingle (ns ++ m ∷ [])
 single_pushed [] m s new = (refl, tt)
 single_pushed (n ∷ ns) m s new =
-    let w = neither (nat_eq m n) (list_any (nat_eq m) ns) new in
+    let w = or_parts (nat_eq m n) (list_any (nat_eq m) ns) new in
     (none_pushed n m ns s.0 (swapped m n w.0), single_pushed ns m s.1 w.1)
 
 -- the variables of the `$f` among what ends with blocks
@@ -59,11 +51,8 @@ same_any n (Active m ∷ es) = same_any n es
 same_any n (Floated m ∷ es) = ap (λ b. nat_eq n m || b) (same_any n es)
 
 no_float : (past : List Event) (n : ℕ) → ¬ HasFloat past n → list_any (nat_eq n) (floats (in_force zero (moves past))) ≡ false
-no_float past n free = same_any n (in_force zero (moves past)) ∙ by (list_any (is_floated_of n) (in_force zero (moves past))) refl
-  where
-    by : (b : Bool) → list_any (is_floated_of n) (in_force zero (moves past)) ≡ b → b ≡ false
-    by true e = absurd (free (has_float past n e))
-    by false e = refl
+no_float past n free =
+    same_any n (in_force zero (moves past)) ∙ false_from_ne_true (list_any (is_floated_of n) (in_force zero (moves past))) (λ e. free (has_float past n e))
 
 -- where any number of closed blocks is left, the active `$f` have different variables
 floats_single : (past : List Event) (k : ℕ) → FollowsRules past → AreSingle (floats (in_force k (moves past)))
@@ -209,11 +198,11 @@ floats_are (distinct ss ∷ past) k r = floats_are past k r.1
 any_kept : (n : ℕ) (r : Option ℕ) (xs ys : List ℕ) → list_any (nat_eq n) (cons_option r xs) ≡ false → (list_any (nat_eq n) xs ≡ false → list_any (nat_eq n) ys ≡ false)
     → list_any (nat_eq n) (cons_option r ys) ≡ false
 any_kept n None xs ys h later = later h
-any_kept n (Some m) xs ys h later = let w = neither (nat_eq n m) (list_any (nat_eq n) xs) h in or_none (nat_eq n m) (list_any (nat_eq n) ys) w.0 (later w.1)
+any_kept n (Some m) xs ys h later = let w = or_parts (nat_eq n m) (list_any (nat_eq n) xs) h in or_from (nat_eq n m) (list_any (nat_eq n) ys) w.0 (later w.1)
 
 any_left : (n : ℕ) (r : Option ℕ) (xs : List ℕ) → list_any (nat_eq n) (cons_option r xs) ≡ false → list_any (nat_eq n) xs ≡ false
 any_left n None xs h = h
-any_left n (Some m) xs h = (neither (nat_eq n m) (list_any (nat_eq n) xs) h).1
+any_left n (Some m) xs h = (or_parts (nat_eq n m) (list_any (nat_eq n) xs) h).1
 
 single_left : (r : Option ℕ) (xs : List ℕ) → AreSingle (cons_option r xs) → AreSingle xs
 single_left None xs h = h

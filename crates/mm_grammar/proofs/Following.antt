@@ -1,5 +1,6 @@
 -- Each event that reading adds is as the language asks.
 use Rattle.std.proofs.Common.{◌≡◌, ◌<◌, ℕ, false, not, ◌||◌, List, [], ◌∷◌, ◌++◌, length, nat_eq, nat_lt, refl, sym, subst, arith}
+use Rattle.std.proofs.lemmas.Bool.{or_parts}
 use Rattle.std.specs.List.{list_any}
 use Rattle.mm_tokens.specs.declared.pieces.Token.{Token}
 use Rattle.mm_words.specs.Words.{word_of, is_bad_label, is_bad_symbol}
@@ -14,7 +15,7 @@ use Rattle.mm_scope.specs.declared.mode.Mode.{Mode}
 use Rattle.mm_scope.specs.declared.mode.Mode.TheVariants as mode
 use Rattle.mm_forms.proofs.Fine.{IfFine, fine_if, fine_unless, of_each}
 use Rattle.mm_grammar.specs.Rules.{IsNewLabel, FollowsRules}
-use Rattle.mm_grammar.proofs.Answering.{neither, constant_back, scope_back, free_back, typed_back, inactive_back, unknown_back, no_label_back, outermost_back, deep_back}
+use Rattle.mm_grammar.proofs.Answering.{constant_back, scope_back, free_back, typed_back, inactive_back, unknown_back, no_label_back, outermost_back, deep_back}
 use Rattle.mm_grammar.proofs.Begun.{IsTypingBegun, IsExpressionBegun, IsPartingBegun, typing_none, typing_first, typing_second, typing_done, expression_none, expression_more, expression_done, parting_none, parting_more, parting_done}
 use Rattle.mm_grammar.proofs.Known.{declared_named}
 
@@ -45,7 +46,7 @@ a_label_good s t p all =
     fine_if (is_bad_label t) _ _ Good (λ _. tt) (λ _.
     fine_if (a.label || a.known) _ _ Good (λ _. tt) (λ off.
     fine_if (nat_lt 255 (length t)) _ _ Good (λ _. tt) (λ _.
-    let w = neither a.label a.known off in
+    let w = or_parts a.label a.known off in
     record { all = all; fits = record { label = no_label_back s.context t w.0; symbol = unknown_back s.context t w.1 } })))
 
 -- one symbol more
@@ -68,7 +69,7 @@ a_distinct_good s e t p all b =
     fine_if (not (a.constant || a.active)) _ _ Good (λ _. tt) (λ live.
     fine_if (a.constant || list_any (nat_eq a.number) s.buffer) _ _ Good (λ _. tt) (λ off.
     fine_if (is_full s) _ _ Good (λ _. tt) (λ _.
-    let w = neither a.constant (list_any (nat_eq a.number) s.buffer) off in
+    let w = or_parts a.constant (list_any (nat_eq a.number) s.buffer) off in
     grow s mode.Distinct e a.number all (parting_more s.context s.buffer a.number w.1 (scope_back s.context t live w.0) b))))
 
 a_float_good : (s : State (List Event)) → s.mode ≡ mode.Float → (t : List ℕ) (p : ℕ) → FollowsRules s.context → IsNewLabel s.context s.label → IsTypingBegun s.context s.buffer
@@ -80,7 +81,7 @@ a_float_good s e t p all new b =
     fine_if (nat_eq (length s.buffer) 0) _ _ Good
     (λ none. fine_if a.constant _ _ Good (λ is. grow s mode.Float e a.number all (new, typing_first s.context s.buffer a.number none (constant_back s.context t is))) (λ _. tt)) (λ some.
     fine_if (nat_lt 1 (length s.buffer) || a.constant) _ _ Good (λ _. tt) (λ off.
-    let w = neither (nat_lt 1 (length s.buffer)) a.constant off in
+    let w = or_parts (nat_lt 1 (length s.buffer)) a.constant off in
     fine_if a.floated _ _ Good (λ _. tt) (λ free. grow s mode.Float e a.number all
     (new, typing_second s.context s.buffer a.number some w.0 b (scope_back s.context t live w.1) (free_back s.context t live free))))))
 
@@ -92,7 +93,7 @@ a_constant_good s e t p all outermost =
     fine_if (is_bad_symbol t) _ _ Good (λ _. tt) (λ fit.
     fine_if (a.known || a.label) _ _ Good (λ _. tt) (λ off.
     fine_if (is_full s) _ _ Good (λ _. tt) (λ _.
-    let w = neither a.known a.label off in
+    let w = or_parts a.known a.label off in
     subst (λ m. FollowsAt (constant t a.number ∷ s.context) m s.label (s.buffer ++ a.number ∷ [])) (sym e) (record {
       all = (record { fit = fit; outermost = outermost; symbol = unknown_back s.context t w.0; label = no_label_back s.context t w.1; named = declared_named s.context t }, all);
       fits = outermost;
@@ -105,8 +106,8 @@ a_variable_good s e t p all =
     fine_if (is_bad_symbol t) _ _ Good (λ _. tt) (λ fit.
     fine_if (a.active || a.constant || a.label) _ _ Good (λ _. tt) (λ off.
     fine_if (is_full s) _ _ Good (λ _. tt) (λ _.
-    let w = neither (a.active || a.constant) a.label off in
-    let v = neither a.active a.constant w.0 in
+    let w = or_parts (a.active || a.constant) a.label off in
+    let v = or_parts a.active a.constant w.0 in
     subst (λ m. FollowsAt (variable t a.number ∷ s.context) m s.label (s.buffer ++ a.number ∷ [])) (sym e) (record {
       all = (record { fit = fit; inactive = inactive_back s.context t all v.0 v.1; label = no_label_back s.context t w.1; named = declared_named s.context t }, all);
       fits = tt;

@@ -1,7 +1,7 @@
 -- A symbol's number is the place of its text, now and later.
 use Rattle.std.proofs.Common.{◌≡◌, ◌≢◌, ◌<◌, ℕ, Bool, true, false, cond, ◌||◌, List, [], ◌∷◌, ◌++◌, Option, None, Some, length, position, slice_get, get_or, nat_eq, refl, sym, ap, ◌∙◌, arith, length-append, append-nil, append_assoc, inl, inr}
 use Rattle.std.proofs.Math.Seq.{get_or-append_seam}
-use Rattle.std.proofs.lemmas.Bool.{eqb-true, true≢false, false≢true, cases_lt}
+use Rattle.std.proofs.lemmas.Bool.{eqb-true, true≢false, false≢true, cases_lt, or_from, or_right, false_from_ne_true}
 use Rattle.std.proofs.lemmas.List.{get_or_append_left}
 use Rattle.std.proofs.lemmas.List.Folds.{list_any_at}
 use Rattle.std.proofs.lemmas.List.Quantifiers.{position-Some}
@@ -149,20 +149,12 @@ ever [] = []
 ever (variable t n ∷ past) = n ∷ ever past
 ever (_ ∷ past) = ever past
 
-or_none : (a b : Bool) → a ≡ false → b ≡ false → (a || b) ≡ false
-or_none true b h g = absurd (true≢false h)
-or_none false b h g = g
-
 ever_in_scope : (n : ℕ) (t : List ℕ) (earlier later : List Event) → list_any (nat_eq n) (ever (later ++ variable t n ∷ earlier)) ≡ true
 ever_in_scope n t earlier [] = ap (λ b. b || list_any (nat_eq n) (ever earlier)) (same n)
   where
     same : (k : ℕ) → nat_eq k k ≡ true
     same k = grind arith
-ever_in_scope n t earlier (variable u m ∷ later) = right (nat_eq n m) (ever_in_scope n t earlier later)
-  where
-    right : (a : Bool) {b : Bool} → b ≡ true → (a || b) ≡ true
-    right true h = refl
-    right false h = h
+ever_in_scope n t earlier (variable u m ∷ later) = or_right (nat_eq n m) (list_any (nat_eq n) (ever (later ++ variable t n ∷ earlier))) (ever_in_scope n t earlier later)
 ever_in_scope n t earlier (constant u m ∷ later) = ever_in_scope n t earlier later
 ever_in_scope n t earlier (float l ss d ∷ later) = ever_in_scope n t earlier later
 ever_in_scope n t earlier (essential l ss d ∷ later) = ever_in_scope n t earlier later
@@ -197,22 +189,14 @@ ever_within (closed ∷ past) n r h = ever_within past n r.1 h
 never_constant : (past : List Event) (n : ℕ) → FollowsRules past → list_any (nat_eq n) (ever past) ≡ true → list_any (nat_eq n) (constants past) ≡ false
 unfolding constants
 never_constant [] n r h = absurd (false≢true h)
-never_constant (constant t m ∷ past) n r h = or_none (nat_eq n m) (list_any (nat_eq n) (constants past)) (differ (nat_eq n m) refl) (never_constant past n r.1 h)
+never_constant (constant t m ∷ past) n r h = or_from (nat_eq n m) (list_any (nat_eq n) (constants past)) (false_from_ne_true (nat_eq n m) (λ e. omega (arith, eqb-true n m e, last, ever_within past n r.1 h))) (never_constant past n r.1 h)
   where
     last : m ≡ length (symbols past)
     last = sym (declared_now past t m r.0.named) ∙ ap (λ a. a.number) (unknown_now past t r.0.symbol)
-
-    differ : (b : Bool) → nat_eq n m ≡ b → b ≡ false
-    differ true e = absurd (omega (arith, eqb-true n m e, last, ever_within past n r.1 h))
-    differ false e = refl
 never_constant (variable t m ∷ past) n r h = by (nat_eq n m) refl (never_constant past n r.1)
   where
-    no_constant : (b : Bool) → list_any (nat_eq m) (constants past) ≡ b → b ≡ false
-    no_constant true e = absurd (r.0.inactive (inl (is_constant past m e)))
-    no_constant false e = refl
-
     by : (b : Bool) → nat_eq n m ≡ b → (list_any (nat_eq n) (ever past) ≡ true → list_any (nat_eq n) (constants past) ≡ false) → list_any (nat_eq n) (constants past) ≡ false
-    by true e older = ap (λ k. list_any (nat_eq k) (constants past)) (eqb-true n m e) ∙ no_constant (list_any (nat_eq m) (constants past)) refl
+    by true e older = ap (λ k. list_any (nat_eq k) (constants past)) (eqb-true n m e) ∙ false_from_ne_true (list_any (nat_eq m) (constants past)) (λ c. r.0.inactive (inl (is_constant past m c)))
     by false e older = older (either_or (nat_eq n m) (list_any (nat_eq n) (ever past)) h e)
 never_constant (float l ss d ∷ past) n r h = never_constant past n r.1 h
 never_constant (essential l ss d ∷ past) n r h = never_constant past n r.1 h

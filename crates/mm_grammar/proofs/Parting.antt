@@ -1,6 +1,6 @@
 -- No label is a symbol where the rules are followed.
 use Rattle.std.proofs.Common.{◌≡◌, ℕ, Bool, true, false, cond, ◌||◌, List, [], ◌∷◌, ◌++◌, All, get_or, refl, sym, ◌∙◌}
-use Rattle.std.proofs.lemmas.Bool.{true≢false}
+use Rattle.std.proofs.lemmas.Bool.{true≢false, or_from, false_from_ne_true}
 use Rattle.std.proofs.lemmas.List.Elements.{All-push, All-nil}
 use Rattle.std.proofs.lemmas.List.Folds.{list_any-append, list_any_at}
 use Rattle.std.proofs.lemmas.Slice.Eq.{bytes_eq-Decides}
@@ -15,31 +15,19 @@ abbrev AreApart : List (List ℕ) → List (List ℕ) → Type 0
 AreApart symbols labels = All (λ l. list_any (bytes_eq l) symbols ≡ false) labels
 
 differ_too : (t l : List ℕ) → bytes_eq t l ≡ false → bytes_eq l t ≡ false
-differ_too t l h = by (bytes_eq l t) refl
-  where
-    by : (is : Bool) → bytes_eq l t ≡ is → is ≡ false
-    by true e = absurd (true≢false (sym ((bytes_eq-Decides t l).1 (sym ((bytes_eq-Decides l t).0 e))) ∙ h))
-    by false e = refl
+differ_too t l h = false_from_ne_true (bytes_eq l t) (λ e. true≢false (sym ((bytes_eq-Decides t l).1 (sym ((bytes_eq-Decides l t).0 e))) ∙ h))
 
 -- a text that is among none of them differs from each
 none_like : (t : List ℕ) (labels : List (List ℕ)) → list_any (bytes_eq t) labels ≡ false → All (λ l. bytes_eq l t ≡ false) labels
-none_like t labels none k d small = differ_too t (get_or labels k d) (by (bytes_eq t (get_or labels k d)) refl)
-  where
-    by : (is : Bool) → bytes_eq t (get_or labels k d) ≡ is → is ≡ false
-    by true e = absurd (true≢false (sym (list_any_at (bytes_eq t) labels k d small e) ∙ none))
-    by false e = refl
-
-or_none : (a b : Bool) → a ≡ false → b ≡ false → (a || (b || false)) ≡ false
-or_none true b h g = absurd (true≢false h)
-or_none false true h g = absurd (true≢false g)
-or_none false false h g = refl
+none_like t labels none k d small =
+    differ_too t (get_or labels k d) (false_from_ne_true (bytes_eq t (get_or labels k d)) (λ e. true≢false (sym (list_any_at (bytes_eq t) labels k d small e) ∙ none)))
 
 still_none : (l t : List ℕ) (ts : List (List ℕ)) → list_any (bytes_eq l) ts ≡ false → bytes_eq l t ≡ false → list_any (bytes_eq l) (with_text ts t) ≡ false
 still_none l t ts h g = by (list_any (bytes_eq t) ts)
   where
     by : (is : Bool) → list_any (bytes_eq l) (cond is ts (ts ++ t ∷ [])) ≡ false
     by true = h
-    by false = list_any-append (bytes_eq l) ts (t ∷ []) ∙ or_none (list_any (bytes_eq l) ts) (bytes_eq l t) h g
+    by false = list_any-append (bytes_eq l) ts (t ∷ []) ∙ or_from (list_any (bytes_eq l) ts) (bytes_eq l t || false) h (or_from (bytes_eq l t) false g refl)
 
 -- a symbol more that is no label
 one_symbol : (ts labels : List (List ℕ)) (t : List ℕ) → AreApart ts labels → list_any (bytes_eq t) labels ≡ false → AreApart (with_text ts t) labels

@@ -1,6 +1,6 @@
 -- The tokens of a statement are read, and say what the statement says.
-use Rattle.std.proofs.Common.{◌≡◌, ◌≤◌, ◌<◌, ◌+◌, ℕ, suc, Bool, true, false, not, ◌||◌, List, [], ◌∷◌, ◌++◌, Option, None, Some, All, length, map, nat_eq, nat_lt, slice_get, slice_index, codes, Ok, refl, sym, ap, ◌∙◌, subst, arith, append_assoc, inl, inr}
-use Rattle.std.proofs.lemmas.Bool.{eqb-true, true≢false}
+use Rattle.std.proofs.Common.{◌≡◌, ◌≤◌, ◌<◌, ◌+◌, ℕ, suc, false, not, ◌||◌, List, [], ◌∷◌, ◌++◌, Option, None, Some, All, length, map, nat_eq, nat_lt, slice_get, slice_index, codes, Ok, refl, sym, ap, ◌∙◌, subst, arith, append_assoc, inl, inr}
+use Rattle.std.proofs.lemmas.Bool.{eqb-true, true≢false, or_from, or_parts, false_from_ne_true}
 use Rattle.std.proofs.lemmas.List.{length-map}
 use Rattle.std.specs.List.{list_any}
 use Rattle.mm_tokens.specs.declared.pieces.Span.{Span}
@@ -25,15 +25,8 @@ use Rattle.mm_grammar.proofs.Taking.{cond_no, cond_yes, Each, FirstIs, expressio
 label_plain : (t : List ℕ) → is_bad_label t ≡ false → nat_eq (slice_index t 0) 36 ≡ false
 unfolding is_bad_label
 label_plain [] h = refl
-label_plain (b ∷ t) h = by (nat_eq b 36) refl
-  where
-    left : (x y : Bool) → (x || y) ≡ false → x ≡ false
-    left true y g = absurd (true≢false g)
-    left false y g = refl
-
-    by : (is : Bool) → nat_eq b 36 ≡ is → is ≡ false
-    by true e = absurd (true≢false (sym (ap (λ c. not (is_label_byte c)) (eqb-true b 36 e)) ∙ left (not (is_label_byte b)) (list_any (λ c. not (is_label_byte c)) t) h))
-    by false e = refl
+label_plain (b ∷ t) h = false_from_ne_true (nat_eq b 36)
+    (λ e. true≢false (sym (ap (λ c. not (is_label_byte c)) (eqb-true b 36 e)) ∙ (or_parts (not (is_label_byte b)) (list_any (λ c. not (is_label_byte c)) t) h).0))
 
 at_most : (k : ℕ) → k ≤ 255 → nat_lt 255 k ≡ false
 at_most k h = grind (arith, h)
@@ -46,10 +39,6 @@ two_there k j h e = grind (arith, h, e)
 
 as_many : (ss : List Symbol) → length (numbers ss) ≡ length ss
 as_many ss = length-map ss (λ (s : Symbol). s.number)
-
-or_none : (a b : Bool) → a ≡ false → b ≡ false → (a || b) ≡ false
-or_none true b h g = absurd (true≢false h)
-or_none false b h g = g
 
 -- what holds of all holds of each
 pub each_of : (P : Symbol → Type 0) (ss : List Symbol) → All P ss → Each P ss
@@ -170,7 +159,7 @@ module _ (bytes : List ℕ) (rest : List Noted) (final : List Event) where
         go bytes s l (k ∷ ns) final u
         (stepped bytes s l t word.Text refl (plain_word t (label_plain t label.fit)) u
         (cond_no (is_bad_label t) _ _ label.fit
-        ∙ cond_no (a.label || a.known) _ _ (or_none a.label a.known (label_now past t new.label) (ap (λ x. x.known) (unknown_now past t new.symbol)))
+        ∙ cond_no (a.label || a.known) _ _ (or_from a.label a.known (label_now past t new.label) (ap (λ x. x.known) (unknown_now past t new.symbol)))
         ∙ cond_no (nat_lt 255 (length t)) _ _ (at_most (length t) label.short)))
         (go bytes (at mode.Labelled past l.token.start t l.comment buf pr None) k ns final (at m past k.token.start t l.comment [] pr k.comment)
         (stepped bytes (at mode.Labelled past l.token.start t l.comment buf pr None) k keyword w reads is_word (at m past k.token.start t l.comment [] pr k.comment)

@@ -1,6 +1,6 @@
 -- What is in force was brought in a block that has not ended, and what was so brought is in force.
 use Rattle.std.proofs.Common.{◌≡◌, ◌≤◌, ◌+◌, ℕ, zero, suc, Bool, true, false, ◌||◌, List, [], ◌∷◌, ◌++◌, nat_eq, slice_index, refl, sym, ap, ◌∙◌, subst, arith, ◌⊎◌, inl, inr}
-use Rattle.std.proofs.lemmas.Bool.{eqb-true, false≢true}
+use Rattle.std.proofs.lemmas.Bool.{eqb-true, false≢true, or_left, or_right}
 use Rattle.std.proofs.lemmas.List.Folds.{list_any-append}
 use Rattle.std.specs.List.{list_any}
 use Rattle.mm_layers.specs.Moves.{in_force}
@@ -71,9 +71,6 @@ brought p (essential l ss d ∷ past) k h = more p (essential l ss d) past k k (
 brought p (asserted l ss d ∷ past) k h = more p (asserted l ss d) past k k (λ later c. c) (brought p past k h)
 brought p (theorem l ss from to d ∷ past) k h = more p (theorem l ss from to d) past k k (λ later c. c) (brought p past k h)
 brought p (distinct ss ∷ past) k h = more p (distinct ss) past k k (λ later c. c) (brought p past k h)
-
-or_left : (a b : Bool) → a ≡ true → (a || b) ≡ true
-or_left a b h = ap (λ c. c || b) h
 
 or_last : (a b : Bool) → b ≡ true → (a || (b || false)) ≡ true
 or_last true b h = refl
@@ -165,10 +162,6 @@ is_constant (constant t m ∷ past) n h = by (nat_eq n m) refl h (is_constant pa
     by true e g older = record { text = t; later = []; earlier = past; whole = ap (λ k. constant t k ∷ past) (sym (eqb-true n m e)) }
     by false e g older = passed (constant t m) past n (older g)
 is_constant (e ∷ past) n h = passed e past n (is_constant past n h)
-
-or_right : (a b : Bool) → b ≡ true → (a || b) ≡ true
-or_right true b h = refl
-or_right false b h = h
 
 constant_there : (t : List ℕ) (n : ℕ) (earlier later : List Event) → list_any (nat_eq n) (constants (later ++ constant t n ∷ earlier)) ≡ true
 unfolding constants

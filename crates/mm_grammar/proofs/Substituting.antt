@@ -1,6 +1,6 @@
 -- In each database the mandatory `$f` of a statement are apart, so an assertion substitutes.
-use Rattle.std.proofs.Common.{◌≡◌, ◌<◌, ℕ, Bool, true, false, cond, ◌||◌, List, [], ◌∷◌, Option, None, Some, length, map, slice_index, nat_eq, refl, sym, ap, ◌∙◌, subst, arith, inl, inr}
-use Rattle.std.proofs.lemmas.Bool.{eqb-true, true≢false, false≢true, cases_lt}
+use Rattle.std.proofs.Common.{◌≡◌, ◌<◌, ℕ, Bool, true, false, cond, List, [], ◌∷◌, Option, None, Some, length, map, slice_index, nat_eq, refl, sym, ap, ◌∙◌, subst, arith, inl, inr}
+use Rattle.std.proofs.lemmas.Bool.{eqb-true, true≢false, false≢true, cases_lt, or_from, false_from_ne_true}
 use Rattle.std.proofs.lemmas.Option.{slice_get-get_or}
 use Rattle.std.specs.List.{list_any, cons_option}
 use Rattle.mm_stated.specs.Mandatory.{variables_of}
@@ -19,10 +19,6 @@ is_float_kind kind.Float h = refl
 is_float_kind kind.Essential h = absurd (false≢true h)
 is_float_kind kind.Axiom h = absurd (false≢true h)
 is_float_kind kind.Theorem h = absurd (false≢true h)
-
-none_same : (a b : Bool) → a ≡ false → b ≡ false → (a || b) ≡ false
-none_same true b h g = absurd (true≢false h)
-none_same false b h g = g
 
 module _ (bytes : List ℕ) where
   abbrev hypotheses : List ℕ → List Stated
@@ -46,11 +42,7 @@ module _ (bytes : List ℕ) where
 
   -- a constant is the variable of none
   differs : (c v : ℕ) → is_variable_of bytes c ≡ false → is_variable_of bytes v ≡ true → nat_eq c v ≡ false
-  differs c v h g = by (nat_eq c v) refl
-    where
-      by : (b : Bool) → nat_eq c v ≡ b → b ≡ false
-      by true e = absurd (true≢false (sym g ∙ ap (is_variable_of bytes) (sym (eqb-true c v e)) ∙ h))
-      by false e = refl
+  differs c v h g = false_from_ne_true (nat_eq c v) (λ e. true≢false (sym g ∙ ap (is_variable_of bytes) (sym (eqb-true c v e)) ∙ h))
 
   no_variable : (c : ℕ) → is_variable_of bytes c ≡ false → (ids : List ℕ) → AreBelow (length (labels_of bytes)) ids → list_any (nat_eq c) (float_variables (hypotheses ids)) ≡ false
   no_variable c h [] below = refl
@@ -59,7 +51,7 @@ module _ (bytes : List ℕ) where
       by : (b : Bool) → is_float (stated_at bytes id).kind ≡ b → list_any (nat_eq c) (float_variables (hypotheses ids)) ≡ false
           → list_any (nat_eq c) (cond b (slice_index (stated_at bytes id).symbols 1 ∷ float_variables (hypotheses ids)) (float_variables (hypotheses ids))) ≡ false
       by true e later =
-          none_same (nat_eq c (slice_index (stated_at bytes id).symbols 1)) (list_any (nat_eq c) (float_variables (hypotheses ids)))
+          or_from (nat_eq c (slice_index (stated_at bytes id).symbols 1)) (list_any (nat_eq c) (float_variables (hypotheses ids)))
           (differs c (slice_index (stated_at bytes id).symbols 1) h ((formed bytes id below.0).variable (is_float_kind (stated_at bytes id).kind e))) later
       by false e later = later
 

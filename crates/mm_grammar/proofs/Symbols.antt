@@ -8,7 +8,7 @@ use Rattle.mm_scope.specs.Steps.{Answers, State, symbol_checks, take_symbol, is_
 use Rattle.mm_scope.specs.declared.mode.Mode.{Mode}
 use Rattle.mm_scope.specs.declared.mode.Mode.TheVariants as mode
 use Rattle.mm_forms.proofs.Fine.{IfFine, fine_if, fine_unless}
-use Rattle.std.proofs.lemmas.Bool.{true≢false}
+use Rattle.std.proofs.lemmas.Bool.{or_parts}
 use Rattle.mm_grammar.specs.Phrases.{Noted, Symbol, text_at, IsPlain, IsSymbol}
 use Rattle.mm_grammar.proofs.Known.{active_named, declared_named}
 use Rattle.mm_grammar.proofs.Writing.{one_token, one_text, Stating, listing_more, stating_more, proving_more, declaring_more, Begun, ReadAt}
@@ -23,14 +23,10 @@ none_left : (k : ℕ) → nat_eq k 0 ≡ true → k < most_symbols
 none_left k h = grind arith
 
 one_left : (k : ℕ) (b : Bool) → (nat_lt 1 k || b) ≡ false → k < most_symbols
-one_left k b h = by (nat_lt 1 k) refl h
+one_left k b h = few (or_parts (nat_lt 1 k) b h).0
   where
     few : nat_lt 1 k ≡ false → k < most_symbols
     few e = grind arith
-
-    by : (c : Bool) → nat_lt 1 k ≡ c → (c || b) ≡ false → k < most_symbols
-    by true e g = absurd (true≢false g)
-    by false e g = few e
 
 -- where n is the next token
 module _ (bytes : List ℕ) (read : List Noted) (s : State (List Event)) (n : Noted) (noted : s.comment ≡ n.comment) where

@@ -1,7 +1,7 @@
 -- The symbols of a statement are taken, one after another.
 use Rattle.std.proofs.Common.{◌≡◌, ◌≢◌, ◌≤◌, ◌<◌, ◌+◌, ℕ, zero, suc, Bool, true, false, cond, not, ◌&&◌, ◌||◌, List, [], ◌∷◌, ◌++◌, Option, None, Some, length, map, position, get_or, nat_eq, nat_lt, Result, Ok, Err, refl, sym, ap, ◌∙◌, subst, arith, length-append, append-nil, append_assoc, inl, inr}
 use Rattle.std.proofs.Math.Seq.{get_or-append_seam}
-use Rattle.std.proofs.lemmas.Bool.{eqb-true, true≢false}
+use Rattle.std.proofs.lemmas.Bool.{eqb-true, or_from, or_left, or_right, and_right, false_from_ne_true}
 use Rattle.std.proofs.lemmas.List.{get_or_append_left}
 use Rattle.std.specs.List.{list_any}
 use Rattle.mm_layers.specs.Moves.{in_force}
@@ -34,17 +34,6 @@ cond_yes b x y h = ap (λ c. cond c x y) h
 unless_off : {A : Type 0} (cs : List (Bool × ReadFault)) (r : Result A ReadFault) → AllOff cs → unless cs r ≡ r
 unless_off [] r off = refl
 unless_off (c ∷ cs) r off = cond_no c.0 (Err c.1) (unless cs r) off.0 ∙ unless_off cs r off.1
-
-or_left : (a b : Bool) → a ≡ true → (a || b) ≡ true
-or_left a b h = ap (λ c. c || b) h
-
-or_right : (a b : Bool) → b ≡ true → (a || b) ≡ true
-or_right true b h = refl
-or_right false b h = h
-
-or_none : (a b : Bool) → a ≡ false → b ≡ false → (a || b) ≡ false
-or_none true b h g = absurd (true≢false h)
-or_none false b h g = g
 
 not_yet : (k : ℕ) → k < most_symbols → not (nat_lt k most_symbols) ≡ false
 not_yet k h = grind (arith, h)
@@ -85,11 +74,7 @@ typed_live past n (inr v) = ap not (or_right (is_constant_of past n) (is_active_
 
 typed_off : (past : List Event) (n : ℕ) → IsTyped past n → (not (is_constant_of past n) && not (is_floated_in past n)) ≡ false
 typed_off past n (inl c) = ap (λ b. not b && not (is_floated_in past n)) (constant_in past n c)
-typed_off past n (inr v) = and_right (not (is_constant_of past n)) (ap not (floated_in_scope past n v.1))
-  where
-    and_right : (a : Bool) {b : Bool} → b ≡ false → (a && b) ≡ false
-    and_right true h = h
-    and_right false h = refl
+typed_off past n (inr v) = and_right (not (is_constant_of past n)) (not (is_floated_in past n)) (ap not (floated_in_scope past n v.1))
 
 -- a number that differs from each before it
 new_in : (buffer : List ℕ) (n : ℕ) (ns : List ℕ) → Differ (buffer ++ n ∷ ns) → list_any (nat_eq n) buffer ≡ false
@@ -98,34 +83,25 @@ new_in buffer n ns differ = none buffer (λ i small e. differ i (length buffer) 
   where
     none : (xs : List ℕ) → ((i : ℕ) → i < length xs → get_or xs i 0 ≢ n) → list_any (nat_eq n) xs ≡ false
     none [] h = refl
-    none (x ∷ xs) h = or_none (nat_eq n x) (list_any (nat_eq n) xs) (unlike x (h 0 (omega arith)) (nat_eq n x) refl) (none xs (λ i small. h (suc i) (omega (arith, small))))
-      where
-        unlike : (y : ℕ) → y ≢ n → (b : Bool) → nat_eq n y ≡ b → b ≡ false
-        unlike y g true e = absurd (g (sym (eqb-true n y e)))
-        unlike y g false e = refl
+    none (x ∷ xs) h =
+        or_from (nat_eq n x) (list_any (nat_eq n) xs) (false_from_ne_true (nat_eq n x) (λ e. h 0 (omega arith) (sym (eqb-true n x e)))) (none xs (λ i small. h (suc i) (omega (arith, small))))
 
 not_floated : (past : List Event) (n : ℕ) → ¬ HasFloat past n → is_floated_in past n ≡ false
-not_floated past n free = by (is_floated_in past n) refl
-  where
-    by : (b : Bool) → is_floated_in past n ≡ b → b ≡ false
-    by true e = absurd (free (has_float past n e))
-    by false e = refl
+not_floated past n free = false_from_ne_true (is_floated_in past n) (λ e. free (has_float past n e))
 
 -- a symbol that is not active
 inactive_now : (past : List Event) (t : List ℕ) (n : ℕ) → ¬ IsActive past n → (look_back past t).number ≡ n → ((look_back past t).active ≡ false) × ((look_back past t).constant ≡ false)
 inactive_now past t n inactive e = by (position (bytes_eq t) (symbols past)) e
   where
-    no_active : (k : ℕ) → k ≡ n → (b : Bool) → is_active_in past k ≡ b → b ≡ false
-    no_active k f true g = absurd (inactive (inr (in_scope past n (ap (is_active_in past) (sym f) ∙ g))))
-    no_active k f false g = refl
+    no_active : (k : ℕ) → k ≡ n → is_active_in past k ≡ false
+    no_active k f = false_from_ne_true (is_active_in past k) (λ g. inactive (inr (in_scope past n (ap (is_active_in past) (sym f) ∙ g))))
 
-    no_constant : (k : ℕ) → k ≡ n → (b : Bool) → is_constant_of past k ≡ b → b ≡ false
-    no_constant k f true g = absurd (inactive (inl (is_constant past n (ap (is_constant_of past) (sym f) ∙ g))))
-    no_constant k f false g = refl
+    no_constant : (k : ℕ) → k ≡ n → is_constant_of past k ≡ false
+    no_constant k f = false_from_ne_true (is_constant_of past k) (λ g. inactive (inl (is_constant past n (ap (is_constant_of past) (sym f) ∙ g))))
 
     by : (r : Option ℕ) → (known_as past t r).number ≡ n → ((known_as past t r).active ≡ false) × ((known_as past t r).constant ≡ false)
     by None f = (refl, refl)
-    by (Some k) f = (no_active k f (is_active_in past k) refl, no_constant k f (is_constant_of past k) refl)
+    by (Some k) f = (no_active k f, no_constant k f)
 
 -- where a statement is begun, and its tokens lead on to some events
 module _ (bytes : List ℕ) (past : List Event) (begun : ℕ) (label : List ℕ) (described : Option Span) (proof : ℕ) (rest : List Noted) (final : List Event) where
@@ -175,7 +151,7 @@ module _ (bytes : List ℕ) (past : List Event) (begun : ℕ) (label : List ℕ)
         go bytes (at mode.Distinct past begun label described buffer proof None) x.place (places xs ++ rest) final (take_symbol s n)
         (used mode.Distinct buffer x (take_symbol s n) each.0.0
         (cond_no (not (is_constant_of past n || is_active_in past n)) _ _ live
-        ∙ cond_no (is_constant_of past n || list_any (nat_eq n) buffer) _ _ (or_none (is_constant_of past n) (list_any (nat_eq n) buffer) (variable_now past n rules each.0.1) (new_in buffer n (numbers xs) differ))
+        ∙ cond_no (is_constant_of past n || list_any (nat_eq n) buffer) _ _ (or_from (is_constant_of past n) (list_any (nat_eq n) buffer) (variable_now past n rules each.0.1) (new_in buffer n (numbers xs) differ))
         ∙ cond_no (is_full s) _ _ (not_yet (length buffer) (omega (arith, room)))))
         (parting_taken xs (buffer ++ n ∷ []) (omega (arith, room, length-append buffer (n ∷ []))) each.1
         (subst Differ (sym (append_assoc buffer (n ∷ []) (numbers xs))) differ) (leads_more mode.Distinct buffer n (numbers xs) leads))
@@ -236,7 +212,7 @@ module _ (bytes : List ℕ) (begun : ℕ) (label : List ℕ) (described : Option
       let taken : ℕ → State (List Event) = λ k. at mode.Constants (constant t k ∷ past) begun label described (buffer ++ k ∷ []) proof x.place.comment in
       go bytes (at mode.Constants past begun label described buffer proof None) x.place (places xs ++ rest) final (taken n)
       (declared mode.Constants past buffer x (taken n) plain.0
-      (cond_no (is_bad_symbol t) _ _ r.fit ∙ cond_no (a.known || a.label) _ _ (or_none a.known a.label (ap (λ b. b.known) (unknown_now past t r.symbol)) (label_now past t r.label))
+      (cond_no (is_bad_symbol t) _ _ r.fit ∙ cond_no (a.known || a.label) _ _ (or_from a.known a.label (ap (λ b. b.known) (unknown_now past t r.symbol)) (label_now past t r.label))
       ∙ cond_no (is_full s) _ _ (not_yet (length buffer) (omega (arith, room))) ∙ ap (λ k. Ok (taken k)) (declared_now past t n r.named)))
       (constants_taken xs (constant t n ∷ past) (buffer ++ n ∷ []) (omega (arith, room, length-append buffer (n ∷ []))) plain.1 rules
       (λ b e. leads b (e ∙ append_assoc buffer (n ∷ []) (numbers xs))))
@@ -257,7 +233,7 @@ module _ (bytes : List ℕ) (begun : ℕ) (label : List ℕ) (described : Option
       let off = inactive_now past t n r.inactive (declared_now past t n r.named) in
       go bytes (at mode.Variables past begun label described buffer proof None) x.place (places xs ++ rest) final (taken n)
       (declared mode.Variables past buffer x (taken n) plain.0
-      (cond_no (is_bad_symbol t) _ _ r.fit ∙ cond_no (a.active || a.constant || a.label) _ _ (or_none (a.active || a.constant) a.label (or_none a.active a.constant off.0 off.1) (label_now past t r.label))
+      (cond_no (is_bad_symbol t) _ _ r.fit ∙ cond_no (a.active || a.constant || a.label) _ _ (or_from (a.active || a.constant) a.label (or_from a.active a.constant off.0 off.1) (label_now past t r.label))
       ∙ cond_no (is_full s) _ _ (not_yet (length buffer) (omega (arith, room))) ∙ ap (λ k. Ok (taken k)) (declared_now past t n r.named)))
       (variables_taken xs (variable t n ∷ past) (buffer ++ n ∷ []) (omega (arith, room, length-append buffer (n ∷ []))) plain.1 rules
       (λ b e. leads b (e ∙ append_assoc buffer (n ∷ []) (numbers xs))))
