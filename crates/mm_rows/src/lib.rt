@@ -13,6 +13,8 @@ mod first_path;
 #[cfg(test)]
 mod guards;
 #[cfg(test)]
+mod height;
+#[cfg(test)]
 mod outside;
 #[cfg(test)]
 mod proving;
