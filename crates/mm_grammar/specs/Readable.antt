@@ -11,9 +11,9 @@ use Rattle.mm_grammar.specs.Rules.{FollowsRules}
 abbrev pub past_of : List ℕ → List Phrase → List Event
 past_of bytes phrases = reverse (flat_map (told bytes) phrases)
 
--- The file is not too long, has no bad byte, and ends in no comment. Its tokens outside comments are those of these
--- statements, in order. Each has one of the forms, and is as the language asks, given those before it. All blocks are
--- ended.
+-- The file is not too long, has no bad byte and leaves no comment open. Its tokens outside comments are those of these
+-- statements, in order. Each has one of the forms, with the database's symbols by their numbers, and is as the language
+-- asks, given those before it. All blocks are ended.
 pub record IsReadable (bytes : List ℕ) (phrases : List Phrase) : Type 0 where
   pub short : length bytes ≤ most_bytes
   pub clean : position is_bad bytes ≡ None
