@@ -18,7 +18,7 @@ use Rattle.mm_plain.specs.Valid.{Setting, IsKnownSymbol, IsString, IsValid, Fits
 use Rattle.mm_plain.proofs.Kept.{step-good, target-good}
 use Rattle.mm_match.specs.Matches.{MayBeNamed}
 use Rattle.mm_match.specs.declared.matched.Matched.TheVariants.{Unique}
-use Rattle.mm_forms.proofs.Forms.{string_of_statement}
+use Rattle.mm_plain.proofs.Forms.{string_of_statement}
 use Rattle.mm_edit.specs.Outcome.{is_too_long}
 
 known-value : (c : Setting) (sigma : Pairs) → ByRecursion (λ (p : WSym × List WSym). IsString c p.1) sigma → (x : WSym) → IsKnownSymbol c x → All (IsKnownSymbol c) (value_of sigma x)

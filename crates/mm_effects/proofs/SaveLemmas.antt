@@ -2,7 +2,7 @@
 use Rattle.std.proofs.Common.{◌≡◌, ◌≢◌, ◌≤◌, ℕ, Bool, Bor, false, nat_lt, List, [], ◌∷◌, slice_get, Option, Some, None, Result, refl, ap, subst, arith}
 use Rattle.std.proofs.lemmas.Bool.Decides.{nat_tests}
 use Rattle.std.specs.Option.{option_copied}
-use Rattle.mm_forms.specs.Labels.{label_at}
+use Rattle.mm_plain.specs.Labels.{label_at}
 use Rattle.mm_plain.specs.Shape.{size_of}
 use Rattle.mm_plain.specs.Numbers.{pending_in}
 use Rattle.mm_sound.specs.Complete.{has_unknown}

@@ -10,7 +10,7 @@ use Rattle.mm_subst.specs.Statements.{statement_of}
 use Rattle.mm_plain.specs.Numbers.{HasOwnLabels, pending_in}
 use Rattle.mm_plain.specs.Shape.{Proof, size_of}
 use Rattle.mm_plain.proofs.Owned.{own-valid}
-use Rattle.mm_forms.specs.Labels.{label_at}
+use Rattle.mm_plain.specs.Labels.{label_at}
 use Rattle.mm_stack.specs.Accepting.{Accepts}
 use Rattle.mm_sound.specs.Complete.{has_unknown}
 use Rattle.mm_save.specs.Saving.{names_pairs, saved}

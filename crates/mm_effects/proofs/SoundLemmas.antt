@@ -16,13 +16,13 @@ use Rattle.mm_plain.specs.Shape.{size_of}
 use Rattle.mm_plain.specs.Valid.{IsValid, first_setting}
 use Rattle.mm_plain.proofs.Kept.{valid-start}
 use Rattle.mm_plain.proofs.Owned.{own-valid}
-use Rattle.mm_forms.specs.Labels.{label_at}
+use Rattle.mm_plain.specs.Labels.{label_at}
 use Rattle.mm_sound.specs.Complete.{has_unknown}
 use Rattle.mm_save.specs.Saving.{names_pairs, saved}
 use Rattle.mm_save.proofs.Agreeing.{Agree, statement_same}
 use Rattle.mm_save.proofs.Moving.{valid_moved}
 use Rattle.mm_save.proofs.Saves.{saved_keeps, saved_agrees}
-use Rattle.mm_forms.proofs.Forms.{string_of_statement}
+use Rattle.mm_plain.proofs.Forms.{string_of_statement}
 use Rattle.mm_stack.specs.Decoding.{is_compressed}
 use Rattle.mm_command.specs.declared.command.StepWord.{StepWord}
 use Rattle.mm_command.specs.declared.command.StepWord.TheVariants.{Last}

@@ -11,7 +11,7 @@ use Rattle.mm_scope.specs.Events.{Event}
 use Rattle.mm_scope.specs.Description.{is_change_guarded}
 use Rattle.mm_plain.specs.Shape.{unknown, size_of}
 use Rattle.mm_plain.specs.Numbers.{pending_in}
-use Rattle.mm_forms.specs.Labels.{label_at}
+use Rattle.mm_plain.specs.Labels.{label_at}
 use Rattle.mm_sound.specs.Complete.{has_unknown}
 use Rattle.mm_save.specs.Saving.{names_pairs, saved}
 use Rattle.mm_subst.specs.Statements.{statement_of}

@@ -3,7 +3,7 @@ use Rattle.std.specs.Prelude.{◌≡◌, not, ℕ, Bool, true, List, Option, Non
 use Rattle.std.specs.Str.{bytes_eq}
 use Rattle.mm_base.specs.Files.{Map}
 use Rattle.mm_plain.specs.declared.plain.Plain.{Plain}
-use Rattle.mm_forms.specs.Labels.{label_at}
+use Rattle.mm_plain.specs.Labels.{label_at}
 use Rattle.mm_stack.specs.Accepting.{Accepts}
 use Rattle.mm_sound.specs.Complete.{has_unknown}
 use Rattle.mm_save.specs.Saving.{saved}

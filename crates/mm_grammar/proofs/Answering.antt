@@ -5,7 +5,7 @@ use Rattle.std.proofs.lemmas.List.{nil_from_length}
 use Rattle.std.proofs.lemmas.Option.{slice_get_within}
 use Rattle.std.specs.List.{list_any}
 use Rattle.std.specs.Str.{bytes_eq}
-use Rattle.mm_names.specs.Texts.{with_text}
+use Rattle.mm_tables.specs.Texts.{with_text}
 use Rattle.mm_scope.specs.Events.{Event, constant, variable, float, essential, asserted, theorem, distinct, opened, closed, symbols, labels, open_blocks}
 use Rattle.mm_scope.specs.Laws.{IsConstant, IsInScope, IsActive}
 use Rattle.mm_scope.specs.Looks.{look_back, known_as}

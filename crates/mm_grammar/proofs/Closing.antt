@@ -12,7 +12,7 @@ use Rattle.mm_scope.specs.Steps.{State}
 use Rattle.mm_scope.specs.declared.fault.ReadFault.{ReadFault}
 use Rattle.mm_scope.specs.declared.mode.Mode.{Mode}
 use Rattle.mm_scope.specs.declared.mode.Mode.TheVariants as mode
-use Rattle.mm_forms.proofs.Fine.{IfFine}
+use Rattle.mm_plain.proofs.Fine.{IfFine}
 
 abbrev AreClosed : List Event → Type 0
 AreClosed past = open_blocks past ≡ []

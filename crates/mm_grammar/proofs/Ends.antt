@@ -6,7 +6,7 @@ use Rattle.mm_scope.specs.Events.{Event, put, float, essential, asserted, theore
 use Rattle.mm_scope.specs.Steps.{State, at_end, most_symbols}
 use Rattle.mm_scope.specs.declared.mode.Mode.{Mode}
 use Rattle.mm_scope.specs.declared.mode.Mode.TheVariants as mode
-use Rattle.mm_forms.proofs.Fine.{IfFine, fine_if}
+use Rattle.mm_plain.proofs.Fine.{IfFine, fine_if}
 use Rattle.mm_grammar.specs.Phrases.{Noted, Phrase, places, numbers, text_at, Reads}
 use Rattle.mm_grammar.specs.Phrases as phrase
 use Rattle.mm_grammar.proofs.Writing.{past_push, IsDone, one_phrase, Listing, Stating, Proving, as_long, ReadAt}

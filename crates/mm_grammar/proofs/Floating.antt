@@ -7,7 +7,7 @@ use Rattle.std.proofs.lemmas.List.Elements.{All-push, All-nil, filter_map-append
 use Rattle.std.proofs.lemmas.List.Folds.{list_any-append}
 use Rattle.std.proofs.lemmas.Option.{slice_get-get_or}
 use Rattle.std.specs.List.{list_any, cons_option}
-use Rattle.mm_layers.specs.Moves.{in_force}
+use Rattle.mm_tables.specs.Moves.{in_force}
 use Rattle.mm_stated.specs.Mandatory.{statement_at, variables_of, an_assertion, mandatory_of, symbols_with, is_mandatory}
 use Rattle.mm_stated.specs.Stated.{Stated, no_statement, a_hypothesis, variable_of}
 use Rattle.mm_stated.specs.declared.statement.Kind.{Kind}

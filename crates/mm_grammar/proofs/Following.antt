@@ -3,9 +3,9 @@ use Rattle.std.proofs.Common.{◌≡◌, ◌<◌, ℕ, false, not, ◌||◌, Lis
 use Rattle.std.proofs.lemmas.Bool.{or_parts}
 use Rattle.std.specs.List.{list_any}
 use Rattle.mm_tokens.specs.declared.pieces.Token.{Token}
-use Rattle.mm_words.specs.Words.{word_of, is_bad_label, is_bad_symbol}
-use Rattle.mm_words.specs.declared.word.Word.{Word}
-use Rattle.mm_words.specs.declared.word.Word.TheVariants as word
+use Rattle.mm_tokens.specs.Words.{word_of, is_bad_label, is_bad_symbol}
+use Rattle.mm_tokens.specs.declared.word.Word.{Word}
+use Rattle.mm_tokens.specs.declared.word.Word.TheVariants as word
 use Rattle.mm_scope.specs.Contents.{events_of}
 use Rattle.mm_scope.specs.Events.{Event, put, constant, variable, float, essential, asserted, theorem, distinct, opened, closed, open_blocks}
 use Rattle.mm_scope.specs.Looks.{look_back}
@@ -13,7 +13,7 @@ use Rattle.mm_scope.specs.Reading.{text_of, step}
 use Rattle.mm_scope.specs.Steps.{Answers, State, symbol_checks, take_symbol, is_full, a_label, a_constant, a_variable, a_float, a_symbol, a_distinct, at_text, at_end, at_proof, unlabelled, at_constants, labelled, at_open, at_close, step_by}
 use Rattle.mm_scope.specs.declared.mode.Mode.{Mode}
 use Rattle.mm_scope.specs.declared.mode.Mode.TheVariants as mode
-use Rattle.mm_forms.proofs.Fine.{IfFine, fine_if, fine_unless, of_each}
+use Rattle.mm_plain.proofs.Fine.{IfFine, fine_if, fine_unless, of_each}
 use Rattle.mm_grammar.specs.Rules.{IsNewLabel, FollowsRules}
 use Rattle.mm_grammar.proofs.Answering.{constant_back, scope_back, free_back, typed_back, inactive_back, unknown_back, no_label_back, outermost_back, deep_back}
 use Rattle.mm_grammar.proofs.Begun.{IsTypingBegun, IsExpressionBegun, IsPartingBegun, typing_none, typing_first, typing_second, typing_done, expression_none, expression_more, expression_done, parting_none, parting_more, parting_done}

@@ -4,9 +4,9 @@ use Rattle.mm_tokens.specs.Pieces.{open_in}
 use Rattle.mm_tokens.specs.declared.pieces.Span.{Span}
 use Rattle.mm_tokens.specs.declared.pieces.Piece.{Piece}
 use Rattle.mm_tokens.specs.declared.pieces.Piece.TheVariants.{Token, Comment, Open}
-use Rattle.mm_words.specs.Words.{word_of, keyword_of}
-use Rattle.mm_words.specs.declared.word.Word.{Word}
-use Rattle.mm_words.specs.declared.word.Word.TheVariants as word
+use Rattle.mm_tokens.specs.Words.{word_of, keyword_of}
+use Rattle.mm_tokens.specs.declared.word.Word.{Word}
+use Rattle.mm_tokens.specs.declared.word.Word.TheVariants as word
 use Rattle.mm_scope.specs.Events.{Event, put}
 use Rattle.mm_scope.specs.Looks.{look_back}
 use Rattle.mm_scope.specs.Reading.{after, step, read_from, with_comment, without_comment}

@@ -8,7 +8,7 @@ use Rattle.std.proofs.lemmas.Option.{slice_get_within, slice_get-get_or, get_or_
 use Rattle.std.proofs.lemmas.Slice.Eq.{bytes_eq-Decides}
 use Rattle.std.specs.List.{list_any, position_or_len}
 use Rattle.std.specs.Str.{bytes_eq}
-use Rattle.mm_names.specs.Texts.{with_text}
+use Rattle.mm_tables.specs.Texts.{with_text}
 use Rattle.mm_scope.specs.Events.{Event, symbols}
 use Rattle.mm_scope.specs.Looks.{look_back, known_as}
 

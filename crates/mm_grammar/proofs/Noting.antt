@@ -10,7 +10,7 @@ use Rattle.mm_scope.specs.Looks.{look_back}
 use Rattle.mm_scope.specs.Reading.{after, step, read_from, with_comment, without_comment}
 use Rattle.mm_scope.specs.Steps.{State}
 use Rattle.mm_scope.specs.declared.fault.ReadFault.{ReadFault}
-use Rattle.mm_forms.proofs.Fine.{IfFine}
+use Rattle.mm_plain.proofs.Fine.{IfFine}
 use Rattle.mm_grammar.specs.Phrases.{Noted, noted_from}
 
 pub tokens_noted : (c : Option Span) (ps : List Piece) → open_in ps ≡ None → map (λ n. n.token) (noted_from c ps) ≡ tokens_in ps

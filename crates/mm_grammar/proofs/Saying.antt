@@ -4,9 +4,9 @@ use Rattle.std.proofs.lemmas.Bool.{eqb-true, true≢false, or_from, or_parts, fa
 use Rattle.std.proofs.lemmas.List.{length-map}
 use Rattle.std.specs.List.{list_any}
 use Rattle.mm_tokens.specs.declared.pieces.Span.{Span}
-use Rattle.mm_words.specs.Words.{word_of, is_bad_label, is_label_byte}
-use Rattle.mm_words.specs.declared.word.Word.{Word}
-use Rattle.mm_words.specs.declared.word.Word.TheVariants as word
+use Rattle.mm_tokens.specs.Words.{word_of, is_bad_label, is_label_byte}
+use Rattle.mm_tokens.specs.declared.word.Word.{Word}
+use Rattle.mm_tokens.specs.declared.word.Word.TheVariants as word
 use Rattle.mm_scope.specs.Events.{Event, put, constant, variable, float, essential, asserted, theorem, distinct, opened, closed, symbols, open_blocks}
 use Rattle.mm_scope.specs.Laws.{IsConstant, IsInScope}
 use Rattle.mm_scope.specs.Looks.{look_back}

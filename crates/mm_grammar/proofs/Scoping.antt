@@ -3,7 +3,7 @@ use Rattle.std.proofs.Common.{◌≡◌, ◌≤◌, ◌+◌, ℕ, zero, suc, Boo
 use Rattle.std.proofs.lemmas.Bool.{eqb-true, false≢true, or_left, or_right}
 use Rattle.std.proofs.lemmas.List.Folds.{list_any-append}
 use Rattle.std.specs.List.{list_any}
-use Rattle.mm_layers.specs.Moves.{in_force}
+use Rattle.mm_tables.specs.Moves.{in_force}
 use Rattle.mm_scope.specs.Events.{Event, constant, variable, float, essential, asserted, theorem, distinct, opened, closed}
 use Rattle.mm_scope.specs.Laws.{openings, closings, NoneEnds, IsConstant, IsInScope}
 use Rattle.mm_scope.specs.Looks.{moves, constants, is_active_of, is_floated_of}

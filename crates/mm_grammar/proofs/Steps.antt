@@ -3,16 +3,16 @@ use Rattle.std.proofs.Common.{◌≡◌, ℕ, Bool, false, List, [], ◌∷◌, 
 use Rattle.std.proofs.lemmas.List.Elements.{All-nil}
 use Rattle.mm_tokens.specs.declared.pieces.Span.{Span}
 use Rattle.mm_tokens.specs.declared.pieces.Token.{Token}
-use Rattle.mm_words.specs.Words.{word_of}
-use Rattle.mm_words.specs.declared.word.Word.{Word}
-use Rattle.mm_words.specs.declared.word.Word.TheVariants as word
+use Rattle.mm_tokens.specs.Words.{word_of}
+use Rattle.mm_tokens.specs.declared.word.Word.{Word}
+use Rattle.mm_tokens.specs.declared.word.Word.TheVariants as word
 use Rattle.mm_scope.specs.Events.{Event, put, opened, closed, symbols}
 use Rattle.mm_scope.specs.Looks.{look_back}
 use Rattle.mm_scope.specs.Reading.{text_of, step}
 use Rattle.mm_scope.specs.Steps.{State, begin, at_proof, unlabelled, at_constants, labelled, at_open, at_close, step_by}
 use Rattle.mm_scope.specs.declared.mode.Mode.{Mode}
 use Rattle.mm_scope.specs.declared.mode.Mode.TheVariants as mode
-use Rattle.mm_forms.proofs.Fine.{IfFine, fine_if}
+use Rattle.mm_plain.proofs.Fine.{IfFine, fine_if}
 use Rattle.mm_grammar.specs.Phrases.{Noted, Phrase, text_at, Reads, IsPlain, IsSymbol}
 use Rattle.mm_grammar.specs.Phrases as phrase
 use Rattle.mm_grammar.specs.Readable.{past_of}

@@ -10,7 +10,7 @@ use Rattle.mm_stated.specs.declared.statement.Kind.TheVariants as kind
 use Rattle.mm_scope.specs.Contents.{events_of, labels_of, statements_of, stated_at, is_variable_of}
 use Rattle.mm_stack.specs.Laws.{variables_of as float_variables, AreApart, hypotheses_of}
 use Rattle.mm_stack.specs.Running.{is_float}
-use Rattle.mm_forms.proofs.Forms.{formed, counted, no_other}
+use Rattle.mm_plain.proofs.Forms.{formed, counted, no_other}
 use Rattle.mm_grammar.proofs.Floating.{AreSingle, AreBelow, HasSingle, all_single}
 use Rattle.mm_grammar.proofs.Following.{followed}
 

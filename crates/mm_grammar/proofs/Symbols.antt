@@ -1,13 +1,13 @@
 -- Each token that is no keyword carries on what is written.
 use Rattle.std.proofs.Common.{◌≡◌, ◌≤◌, ◌<◌, ℕ, Bool, true, false, not, ◌||◌, List, [], ◌∷◌, ◌++◌, length, codes, nat_lt, nat_eq, refl, sym, ap, subst, arith}
 use Rattle.std.specs.List.{list_any}
-use Rattle.mm_words.specs.Words.{is_bad_label, is_bad_symbol}
+use Rattle.mm_tokens.specs.Words.{is_bad_label, is_bad_symbol}
 use Rattle.mm_scope.specs.Events.{Event, put, constant, variable, symbols}
 use Rattle.mm_scope.specs.Looks.{look_back}
 use Rattle.mm_scope.specs.Steps.{Answers, State, symbol_checks, take_symbol, is_full, most_symbols, a_label, a_constant, a_variable, a_float, a_symbol, a_distinct, at_text}
 use Rattle.mm_scope.specs.declared.mode.Mode.{Mode}
 use Rattle.mm_scope.specs.declared.mode.Mode.TheVariants as mode
-use Rattle.mm_forms.proofs.Fine.{IfFine, fine_if, fine_unless}
+use Rattle.mm_plain.proofs.Fine.{IfFine, fine_if, fine_unless}
 use Rattle.std.proofs.lemmas.Bool.{or_parts}
 use Rattle.mm_grammar.specs.Phrases.{Noted, Symbol, text_at, IsPlain, IsSymbol}
 use Rattle.mm_grammar.proofs.Known.{active_named, declared_named}

@@ -4,11 +4,11 @@ use Rattle.std.proofs.Math.Seq.{get_or-append_seam}
 use Rattle.std.proofs.lemmas.Bool.{eqb-true, or_from, or_left, or_right, and_right, false_from_ne_true}
 use Rattle.std.proofs.lemmas.List.{get_or_append_left}
 use Rattle.std.specs.List.{list_any}
-use Rattle.mm_layers.specs.Moves.{in_force}
+use Rattle.mm_tables.specs.Moves.{in_force}
 use Rattle.mm_tokens.specs.declared.pieces.Span.{Span}
 use Rattle.std.specs.Str.{bytes_eq}
-use Rattle.mm_words.specs.Words.{is_bad_symbol}
-use Rattle.mm_words.specs.declared.word.Word.TheVariants as word
+use Rattle.mm_tokens.specs.Words.{is_bad_symbol}
+use Rattle.mm_tokens.specs.declared.word.Word.TheVariants as word
 use Rattle.mm_scope.specs.Events.{Event, put, constant, variable, symbols}
 use Rattle.mm_scope.specs.Laws.{IsConstant, IsInScope, IsActive}
 use Rattle.mm_scope.specs.Looks.{look_back, known_as, moves, constants, is_active_of, is_floated_of}
@@ -17,7 +17,7 @@ use Rattle.mm_scope.specs.Steps.{Answers, State, most_symbols, unless, symbol_ch
 use Rattle.mm_scope.specs.declared.fault.ReadFault.{ReadFault}
 use Rattle.mm_scope.specs.declared.mode.Mode.{Mode}
 use Rattle.mm_scope.specs.declared.mode.Mode.TheVariants as mode
-use Rattle.mm_forms.proofs.Fine.{AllOff}
+use Rattle.mm_plain.proofs.Fine.{AllOff}
 use Rattle.mm_grammar.specs.Phrases.{Noted, Symbol, places, numbers, text_at, IsPlain, IsSymbol}
 use Rattle.mm_grammar.specs.Rules.{HasFloat, IsTyped, Differ, IsNewConstant, IsNewVariable, FollowsRules}
 use Rattle.mm_grammar.proofs.Answering.{label_now}

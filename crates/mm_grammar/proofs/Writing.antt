@@ -4,7 +4,7 @@ use Rattle.std.proofs.lemmas.List.{map_push, reverse-append, length-map}
 use Rattle.std.proofs.lemmas.List.Elements.{All-push, All-nil}
 use Rattle.std.proofs.lemmas.Grind.{flat_map-append}
 use Rattle.mm_tokens.specs.declared.pieces.Span.{Span}
-use Rattle.mm_names.specs.Texts.{with_text}
+use Rattle.mm_tables.specs.Texts.{with_text}
 use Rattle.mm_scope.specs.Events.{Event, constant, variable, symbols}
 use Rattle.mm_scope.specs.Steps.{State, most_symbols}
 use Rattle.mm_scope.specs.declared.mode.Mode.{Mode}

@@ -14,7 +14,7 @@ use Rattle.mm_scope.specs.Steps.{State}
 use Rattle.mm_scope.specs.declared.fault.ReadFault.{ReadFault}
 use Rattle.mm_scope.specs.declared.mode.Mode.{Mode}
 use Rattle.mm_scope.specs.declared.mode.Mode.TheVariants as mode
-use Rattle.mm_forms.proofs.Fine.{IfFine}
+use Rattle.mm_plain.proofs.Fine.{IfFine}
 use Rattle.mm_grammar.specs.Phrases.{Noted, noted_from, tokens, symbols_in}
 use Rattle.mm_scope.proofs.ContentsLemmas.{is_read-length}
 use Rattle.mm_grammar.specs.Readable.{past_of}

@@ -8,7 +8,7 @@ use Rattle.mm_scope.specs.Events.{Event}
 use Rattle.mm_scope.specs.Events as event
 use Rattle.mm_scope.specs.Reading.{text_of}
 use Rattle.mm_scope.specs.Steps.{most_symbols}
-use Rattle.mm_words.specs.Words.{is_bad_label}
+use Rattle.mm_tokens.specs.Words.{is_bad_label}
 
 -- a token outside comments, and the last comment between the token before it and it
 pub record Noted : Type 0 where

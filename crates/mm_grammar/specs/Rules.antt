@@ -4,8 +4,8 @@ use Rattle.std.specs.Prelude.{◌≡◌, ◌≢◌, ◌≤◌, ◌<◌, ℕ, fal
 use Rattle.std.specs.List.{list_any}
 use Rattle.std.specs.Str.{bytes_eq}
 use Rattle.mm_tokens.specs.declared.pieces.Span.{Span}
-use Rattle.mm_names.specs.Texts.{with_text}
-use Rattle.mm_words.specs.Words.{is_bad_symbol}
+use Rattle.mm_tables.specs.Texts.{with_text}
+use Rattle.mm_tokens.specs.Words.{is_bad_symbol}
 use Rattle.mm_scope.specs.Events.{Event, constant, variable, float, essential, asserted, theorem, distinct, opened, closed, symbols, labels, open_blocks}
 use Rattle.mm_scope.specs.Laws.{NoneEnds, IsConstant, IsInScope, IsActive}
 

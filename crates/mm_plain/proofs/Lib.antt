@@ -6,3 +6,10 @@ pub mod Kept
 pub mod Read
 pub mod Walks
 pub mod Owned
+pub mod Fine
+mod Begun
+mod Reading
+pub mod Forms
+mod Places
+mod Labelling
+pub mod Labels

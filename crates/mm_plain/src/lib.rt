@@ -5,6 +5,8 @@
 
 mod laws;
 mod plain;
+mod statements;
 
 pub use laws::{sizes_add_up, valid_proofs_name_own_statements, valid_proofs_stay_valid};
 pub use plain::Plain;
+pub use statements::{labels_find_statements, statements_are_formed, statements_are_strings};

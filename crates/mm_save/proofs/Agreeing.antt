@@ -15,7 +15,7 @@ use Rattle.mm_plain.specs.Premises.{premises_of, variables_for, may_stand}
 use Rattle.mm_plain.specs.Sources.{source_layer, source_of, differs_from, is_pending}
 use Rattle.mm_plain.specs.Shape.{target_of}
 use Rattle.mm_plain.specs.declared.plain.Plain.TheViews as V
-use Rattle.mm_forms.specs.Labels.{label_at}
+use Rattle.mm_plain.specs.Labels.{label_at}
 use Rattle.mm_sound.specs.Apart.{pairs_by}
 use Rattle.mm_sound.specs.Complete.{labels_in}
 use Rattle.mm_sound.specs.Written.{word_for, written}

@@ -17,7 +17,7 @@ use Rattle.mm_plain.specs.Valid.{IsValid}
 use Rattle.mm_stack.specs.Accepting.{Accepts, verdict_of}
 use Rattle.mm_stack.specs.Decoding.{proof_of}
 use Rattle.mm_stack.specs.declared.outcome.Verdict.TheVariants.{Incomplete}
-use Rattle.mm_forms.specs.Labels.{label_at}
+use Rattle.mm_plain.specs.Labels.{label_at}
 use Rattle.mm_sound.specs.Apart.{IsApart, pairs_by}
 use Rattle.mm_sound.specs.Complete.{IsSettled, has_unknown}
 use Rattle.mm_sound.specs.Proves.{Proves}

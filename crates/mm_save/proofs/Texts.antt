@@ -6,7 +6,7 @@ use Rattle.std.proofs.lemmas.List.Elements.{All-from_recursion}
 use Rattle.std.proofs.lemmas.List.Folds.{list_any_none}
 use Rattle.std.specs.List.{All, AllByRecursion as ByRecursion, list_any}
 use Rattle.mm_tokens.specs.Bytes.{is_bad, is_white}
-use Rattle.mm_words.specs.Words.{is_label_byte, is_bad_label}
+use Rattle.mm_tokens.specs.Words.{is_label_byte, is_bad_label}
 use Rattle.mm_layout.specs.Normal.{lines_of, behind_feeds, normal_text}
 use Rattle.mm_layout.specs.Words.{is_word_byte, IsWord}
 use Rattle.mm_layout.proofs.Clean.{text_good, text_dollarless, text_front, text_back}
@@ -15,8 +15,8 @@ use Rattle.mm_plain.specs.declared.plain.Plain.{Plain}
 use Rattle.mm_plain.specs.Numbers.{IsOwnLabel, HasOwnLabels}
 use Rattle.mm_plain.specs.Shape.{Each, steps_of}
 use Rattle.mm_plain.specs.Sources.{label_of}
-use Rattle.mm_forms.specs.Labels.{label_at}
-use Rattle.mm_forms.proofs.Labels.{has_label}
+use Rattle.mm_plain.specs.Labels.{label_at}
+use Rattle.mm_plain.proofs.Labels.{has_label}
 use Rattle.mm_sound.specs.Complete.{labels_in}
 use Rattle.mm_sound.specs.Written.{texts_in, word_for, written}
 use Rattle.mm_splice.specs.Splicing.{is_proof_text}

@@ -12,7 +12,7 @@ ghost use Rattle.mm_plain.specs.Sources.{is_pending};
 ghost use Rattle.mm_plain.specs.Valid.{IsValid};
 ghost use Rattle.mm_stack.specs.Accepting.{Accepts, verdict_of};
 ghost use Rattle.mm_stack.specs.declared.outcome.Verdict.TheVariants.{Incomplete};
-ghost use Rattle.mm_forms.specs.Labels.{label_at};
+ghost use Rattle.mm_plain.specs.Labels.{label_at};
 ghost use Rattle.mm_sound.specs.Apart.{IsApart};
 ghost use Rattle.mm_sound.specs.Complete.{IsComplete, IsSettled, has_unknown};
 ghost use Rattle.mm_sound.specs.Proves.{Proves};

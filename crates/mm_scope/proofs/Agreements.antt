@@ -8,12 +8,12 @@ use Rattle.std.specs.List.{list_any, position_or_len}
 use Rattle.std.specs.Option.{is_some}
 use Rattle.std.specs.Str.{bytes_eq}
 use Rattle.mm_scope.specs.Contexts.{Context, add_to, activated, with_float}
-use Rattle.mm_names.specs.Standings.{Standings}
-use Rattle.mm_names.specs.Tables.{nothing, with_symbol, with_state, standing_at}
+use Rattle.mm_tables.specs.Standings.{Standings}
+use Rattle.mm_tables.specs.Tables.{nothing, with_symbol, with_state, standing_at}
 use Rattle.mm_scope.specs.Events.{Event, constant, variable, float, essential, asserted, theorem, distinct, symbols, labels, statements, active_hypotheses, active_distinct, open_blocks}
 use Rattle.mm_scope.specs.Looks.{known_as, moves, constants, is_active_of, is_floated_of}
-use Rattle.mm_layers.specs.Layered.{Layered, pushed}
-use Rattle.mm_layers.specs.Moves.{in_force}
+use Rattle.mm_tables.specs.Layered.{Layered, pushed}
+use Rattle.mm_tables.specs.Moves.{in_force}
 use Rattle.mm_scope.specs.Moves.{stack, IsBalanced}
 use Rattle.mm_tokens.specs.declared.pieces.Span.{Span}
 use Rattle.mm_stated.specs.Mandatory.{an_assertion_with, an_assertion, mandatory_of}
@@ -21,7 +21,7 @@ use Rattle.mm_stated.specs.Needed.{needed_by}
 use Rattle.mm_stated.specs.Stated.{Stated, a_hypothesis}
 use Rattle.mm_stated.specs.declared.statement.Kind.{Kind}
 use Rattle.mm_stated.specs.declared.statement.Kind.TheVariants as kind
-use Rattle.mm_names.specs.declared.table.Standing.{Standing}
+use Rattle.mm_tables.specs.declared.table.Standing.{Standing}
 use Rattle.mm_scope.specs.declared.ending.Ending.TheVariants.{Active, Floated}
 use Rattle.mm_scope.proofs.Floats.{last_float}
 use Rattle.mm_scope.proofs.LookBack.{holds}

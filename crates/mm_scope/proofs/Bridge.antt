@@ -3,7 +3,7 @@ use Rattle.std.proofs.Common.{◌≡◌, ℕ, zero, suc, ◌-◌, Bool, true, fa
 use Rattle.mm_tokens.specs.declared.pieces.Token.{Token}
 use Rattle.mm_tokens.specs.declared.pieces.Piece.{Piece}
 use Rattle.mm_tokens.specs.Pieces.{pieces_of, open_in}
-use Rattle.mm_words.specs.Words.{word_of}
+use Rattle.mm_tokens.specs.Words.{word_of}
 use Rattle.mm_scope.specs.Contents.{events_in, events_of}
 use Rattle.mm_scope.specs.Events.{Event, put, symbols, labels, statements, hypothesis_moves, variable_moves, distinct_moves, open_blocks}
 use Rattle.mm_scope.specs.Until.{until_at}
@@ -11,8 +11,8 @@ use Rattle.mm_scope.specs.Steps.{State}
 use Rattle.mm_scope.specs.Contexts.{Context, Fails, add_to, answers, empty_state}
 use Rattle.mm_scope.specs.Laws.{LabelsDiffer}
 use Rattle.mm_scope.specs.Looks.{look_back, moves, constants, is_active_of, is_floated_of}
-use Rattle.mm_layers.specs.Layered.{layered}
-use Rattle.mm_layers.specs.Moves.{in_force}
+use Rattle.mm_tables.specs.Layered.{layered}
+use Rattle.mm_tables.specs.Moves.{in_force}
 use Rattle.std.proofs.lemmas.Bool.{false≢true}
 use Rattle.mm_scope.specs.Moves.{stack, IsBalanced}
 use Rattle.mm_scope.specs.Reading.{text_of, after, step, read_from}

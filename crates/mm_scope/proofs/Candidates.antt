@@ -2,11 +2,11 @@
 use Rattle.std.proofs.Common.{◌≡◌, ℕ, zero, Bool, true, false, cond, ◌&&◌, ◌||◌, List, [], ◌∷◌, ◌++◌, filter, flat_map, None, Some, nat_eq, slice_index, refl, sym, ap, ◌∙◌, arith}
 use Rattle.std.proofs.lemmas.Bool.{eqb-true, true≢false, false≢true}
 use Rattle.std.specs.List.{list_any, cons_option}
-use Rattle.mm_layers.proofs.LookBack.{in_force_now}
-use Rattle.mm_layers.specs.Moves.{in_force}
-use Rattle.mm_names.specs.Standings.{Standings}
-use Rattle.mm_names.specs.Tables.{standing_at}
-use Rattle.mm_names.specs.declared.table.Standing.{Standing}
+use Rattle.mm_tables.proofs.LookBack.{in_force_now}
+use Rattle.mm_tables.specs.Moves.{in_force}
+use Rattle.mm_tables.specs.Standings.{Standings}
+use Rattle.mm_tables.specs.Tables.{standing_at}
+use Rattle.mm_tables.specs.declared.table.Standing.{Standing}
 use Rattle.mm_scope.specs.Contexts.{Context}
 use Rattle.mm_scope.specs.Events.{Event, statements, active_hypotheses}
 use Rattle.mm_scope.specs.Looks.{moves, is_floated_of}

@@ -4,7 +4,7 @@ use Rattle.std.proofs.Math.ListN.{drop_of_length-le}
 use Rattle.std.proofs.lemmas.List.{length-take-le}
 use Rattle.std.proofs.lemmas.Grind.{common_steps}
 use Rattle.mm_scope.specs.Contexts.{ended}
-use Rattle.mm_names.specs.Standings.{Standings}
+use Rattle.mm_tables.specs.Standings.{Standings}
 use Rattle.mm_scope.specs.Until.{ended_before}
 use Rattle.mm_scope.specs.declared.ending.Ending.{Ending}
 

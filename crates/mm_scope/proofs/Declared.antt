@@ -5,9 +5,9 @@ use Rattle.std.proofs.Math.ListN.{get_or-eq_default}
 use Rattle.std.proofs.Math.Seq.{get_or-append_seam}
 use Rattle.std.proofs.lemmas.Bool.{eqb-true, true≢false}
 use Rattle.std.specs.List.{list_any}
-use Rattle.mm_names.specs.Standings.{Standings}
-use Rattle.mm_names.specs.Tables.{nothing, with_symbol, with_state, standing_at}
-use Rattle.mm_names.specs.declared.table.Standing.{Standing}
+use Rattle.mm_tables.specs.Standings.{Standings}
+use Rattle.mm_tables.specs.Tables.{nothing, with_symbol, with_state, standing_at}
+use Rattle.mm_tables.specs.declared.table.Standing.{Standing}
 use Rattle.mm_scope.proofs.Booleans.{list_any-append}
 use Rattle.mm_scope.proofs.Flags.{changed}
 

@@ -7,9 +7,9 @@ use Rattle.std.proofs.lemmas.Bool.{eqb-true}
 use Rattle.mm_scope.proofs.Stacks.{below_or, and_true, and_false}
 use Rattle.mm_scope.specs.Contexts.{ended}
 use Rattle.mm_scope.specs.Looks.{is_active_of, is_floated_of}
-use Rattle.mm_names.specs.Standings.{Standings}
-use Rattle.mm_names.specs.Tables.{nothing, with_state, standing_at}
-use Rattle.mm_names.specs.declared.table.Standing.{Standing}
+use Rattle.mm_tables.specs.Standings.{Standings}
+use Rattle.mm_tables.specs.Tables.{nothing, with_state, standing_at}
+use Rattle.mm_tables.specs.declared.table.Standing.{Standing}
 use Rattle.mm_scope.specs.declared.ending.Ending.{Ending}
 use Rattle.mm_scope.specs.declared.ending.Ending.TheVariants.{Active, Floated}
 

@@ -5,8 +5,8 @@ use Rattle.std.proofs.lemmas.List.{get_or_append_left}
 use Rattle.std.proofs.Math.Seq.{get_or-append_seam}
 use Rattle.std.specs.List.{list_any}
 use Rattle.mm_tokens.specs.declared.pieces.Span.{Span}
-use Rattle.mm_layers.specs.Moves.{Move, in_force}
-use Rattle.mm_layers.specs.Moves as move
+use Rattle.mm_tables.specs.Moves.{Move, in_force}
+use Rattle.mm_tables.specs.Moves as move
 use Rattle.mm_scope.specs.Events.{Event, constant, variable, float, essential, asserted, theorem, distinct, opened, closed, labels, statements, hypothesis_moves, active_hypotheses}
 use Rattle.mm_scope.specs.Looks.{moves, is_floated_of}
 use Rattle.mm_stated.specs.Mandatory.{statement_at}

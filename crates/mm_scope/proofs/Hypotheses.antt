@@ -9,7 +9,7 @@ use Rattle.std.specs.List.{list_any}
 use Rattle.mm_scope.specs.Contents.{past_before}
 use Rattle.mm_scope.specs.Contexts.{Context, add_to, closed_layers, ended}
 use Rattle.mm_scope.specs.Events.{Event, opened, closed, labels, hypothesis_moves, active_hypotheses}
-use Rattle.mm_layers.specs.Moves.{item, noted}
+use Rattle.mm_tables.specs.Moves.{item, noted}
 use Rattle.mm_scope.specs.Moves.{stack, pop, IsBalanced}
 use Rattle.mm_scope.specs.Until.{until_at, is_before, is_active_by, is_open, ended_before}
 use Rattle.mm_scope.specs.declared.ending.Block.{Block}

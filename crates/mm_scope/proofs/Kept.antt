@@ -4,12 +4,12 @@ use Rattle.std.proofs.Math.Seq.{get_or-append_seam}
 use Rattle.std.proofs.lemmas.Bool.{eqb-true, true≢false}
 use Rattle.std.specs.List.{list_any}
 use Rattle.std.specs.Str.{bytes_eq}
-use Rattle.mm_words.specs.Words.{is_bad_label, is_bad_symbol}
+use Rattle.mm_tokens.specs.Words.{is_bad_label, is_bad_symbol}
 use Rattle.mm_scope.specs.Events.{Event, put, constant, variable, float, essential, asserted, theorem, distinct, opened, closed, symbols, labels, open_blocks}
 use Rattle.mm_scope.specs.Looks.{look_back, known_as}
 use Rattle.mm_scope.specs.Steps.{Answers, State, unless, symbol_checks, take_symbol, is_full, a_label, a_constant, a_variable, a_float, a_symbol, a_distinct, at_text, at_end, at_proof, unlabelled, at_constants, labelled, at_open, at_close, step_by}
-use Rattle.mm_words.specs.declared.word.Word.{Word}
-use Rattle.mm_words.specs.declared.word.Word.TheVariants as word
+use Rattle.mm_tokens.specs.declared.word.Word.{Word}
+use Rattle.mm_tokens.specs.declared.word.Word.TheVariants as word
 use Rattle.mm_scope.specs.declared.mode.Mode.{Mode}
 use Rattle.mm_scope.specs.declared.mode.Mode.TheVariants as mode
 use Rattle.mm_scope.specs.declared.fault.ReadFault.{ReadFault}

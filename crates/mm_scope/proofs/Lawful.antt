@@ -10,12 +10,12 @@ use Rattle.std.proofs.Math.Seq.{get_or-append_seam}
 use Rattle.std.specs.List.{list_any}
 use Rattle.std.specs.Str.{bytes_eq}
 use Rattle.mm_tokens.specs.declared.pieces.Token.{Token}
-use Rattle.mm_names.specs.Texts.{with_text}
-use Rattle.mm_words.specs.Words.{word_of, is_bad_label, is_bad_symbol}
+use Rattle.mm_tables.specs.Texts.{with_text}
+use Rattle.mm_tokens.specs.Words.{word_of, is_bad_label, is_bad_symbol}
 use Rattle.mm_scope.specs.Events.{Event, put, constant, variable, float, essential, asserted, theorem, distinct, opened, closed, symbols, open_blocks}
 use Rattle.mm_scope.specs.Laws.{openings, closings, NoneEnds, IsConstant, IsInScope, IsActive, SymbolsAreNumbered, Laws}
 use Rattle.mm_scope.specs.Looks.{look_back, known_as, moves, constants, is_active_of}
-use Rattle.mm_layers.specs.Moves.{in_force}
+use Rattle.mm_tables.specs.Moves.{in_force}
 use Rattle.mm_scope.specs.Reading.{text_of, after, step, read_from}
 use Rattle.mm_scope.specs.Steps.{Answers, State, symbol_checks, take_symbol, is_full, a_label, a_constant, a_variable, a_float, a_symbol, a_distinct, at_text, at_end, at_proof, unlabelled, at_constants, labelled, at_open, at_close, step_by}
 use Rattle.mm_tokens.specs.Pieces.{pieces_of, open_in}
@@ -24,8 +24,8 @@ use Rattle.mm_scope.specs.Databases.{nothing_read, at_the_end, unless_open, unle
 use Rattle.mm_scope.specs.Judged.{is_long, judged, clean}
 use Rattle.mm_tokens.specs.Bytes.{is_bad}
 use Rattle.mm_scope.specs.declared.ending.Ending.TheVariants.{Active, Floated}
-use Rattle.mm_words.specs.declared.word.Word.{Word}
-use Rattle.mm_words.specs.declared.word.Word.TheVariants as word
+use Rattle.mm_tokens.specs.declared.word.Word.{Word}
+use Rattle.mm_tokens.specs.declared.word.Word.TheVariants as word
 use Rattle.mm_scope.specs.declared.mode.Mode.{Mode}
 use Rattle.mm_scope.specs.declared.mode.Mode.TheVariants as mode
 use Rattle.mm_scope.specs.declared.fault.ReadFault.{ReadFault}

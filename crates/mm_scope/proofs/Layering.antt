@@ -1,7 +1,7 @@
 -- What the reader keeps in layers is what is kept of the moves.
 use Rattle.std.proofs.Common.{◌≡◌, ℕ, ◌-◌, List, [], ◌∷◌, ◌++◌, Option, None, Some, length, slice_get, ap, ◌∙◌}
-use Rattle.mm_layers.specs.Layered.{layered, pushed, begun, ended, marked}
-use Rattle.mm_layers.proofs.LookBack.{in_force_now}
+use Rattle.mm_tables.specs.Layered.{layered, pushed, begun, ended, marked}
+use Rattle.mm_tables.proofs.LookBack.{in_force_now}
 use Rattle.mm_scope.specs.Contexts.{Context, add_to, close, closed_layers}
 use Rattle.mm_scope.specs.Events.{Event, constant, variable, float, essential, asserted, theorem, distinct, opened, closed, symbols, labels, hypothesis_moves, variable_moves, distinct_moves, active_distinct}
 use Rattle.mm_tokens.specs.declared.pieces.Span.{Span}

@@ -2,10 +2,10 @@
 use Rattle.std.proofs.Common.{◌≡◌, ◌<◌, ◌≤◌, ℕ, zero, suc, Bool, true, false, cond, nat_le, List, [], ◌∷◌, ◌++◌, Some, length, slice_get, slice_index, refl, sym, ap, ◌∙◌, subst, arith, length-append, ◌⊎◌, inl, inr}
 use Rattle.std.proofs.lemmas.List.{get_or_append_left}
 use Rattle.std.proofs.Math.Seq.{get_or-append_seam}
-use Rattle.mm_layers.specs.Layered.{layered}
-use Rattle.mm_layers.specs.Moves.{Move, in_force, notes, before}
-use Rattle.mm_layers.specs.Moves as move
-use Rattle.mm_layers.proofs.LookBack.{in_force_at, moments_are_noted}
+use Rattle.mm_tables.specs.Layered.{layered}
+use Rattle.mm_tables.specs.Moves.{Move, in_force, notes, before}
+use Rattle.mm_tables.specs.Moves as move
+use Rattle.mm_tables.proofs.LookBack.{in_force_at, moments_are_noted}
 use Rattle.mm_scope.specs.Contents.{past_before}
 use Rattle.mm_scope.specs.Events.{Event, constant, variable, float, essential, asserted, theorem, distinct, opened, closed, symbols, labels, hypothesis_moves, variable_moves, distinct_moves, active_hypotheses, active_variables, active_distinct}
 use Rattle.mm_scope.proofs.Hypotheses.{skip, here}

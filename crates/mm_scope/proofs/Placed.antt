@@ -13,12 +13,12 @@ use Rattle.mm_stated.specs.Mandatory.{statement_at}
 use Rattle.mm_scope.specs.Reading.{text_of, after, step, read_from, with_comment, without_comment}
 use Rattle.mm_stated.specs.Stated.{Stated, no_statement}
 use Rattle.mm_scope.specs.Steps.{Answers, State, symbol_checks, take_symbol, is_full, a_label, a_constant, a_variable, a_float, a_symbol, a_distinct, at_text, at_end, at_proof, unlabelled, at_constants, labelled, at_open, at_close, step_by}
-use Rattle.mm_words.specs.Words.{word_of, keyword_of, is_bad_label, is_bad_symbol}
+use Rattle.mm_tokens.specs.Words.{word_of, keyword_of, is_bad_label, is_bad_symbol}
 use Rattle.mm_scope.specs.declared.fault.ReadFault.{ReadFault}
 use Rattle.mm_scope.specs.declared.mode.Mode.{Mode}
 use Rattle.mm_scope.specs.declared.mode.Mode.TheVariants as mode
-use Rattle.mm_words.specs.declared.word.Word.{Word}
-use Rattle.mm_words.specs.declared.word.Word.TheVariants as word
+use Rattle.mm_tokens.specs.declared.word.Word.{Word}
+use Rattle.mm_tokens.specs.declared.word.Word.TheVariants as word
 use Rattle.mm_scope.proofs.Kept.{fine_if, fine_unless}
 use Rattle.mm_scope.proofs.Ordered.{InOrder}
 use Rattle.mm_scope.proofs.Stacks.{below_or}

@@ -5,12 +5,12 @@ use Rattle.std.proofs.Math.ListN.{length-set}
 use Rattle.std.specs.List.{list_any}
 use Rattle.std.specs.Str.{bytes_eq}
 use Rattle.mm_scope.specs.Contexts.{Context, add_to, answers, close, closed_layers, ended}
-use Rattle.mm_names.specs.Standings.{Standings}
-use Rattle.mm_names.specs.Tables.{standing_at}
+use Rattle.mm_tables.specs.Standings.{Standings}
+use Rattle.mm_tables.specs.Tables.{standing_at}
 use Rattle.mm_scope.specs.Until.{ended_before}
 use Rattle.mm_scope.specs.Events.{Event, opened, closed, symbols, labels, statements, open_blocks}
 use Rattle.mm_scope.specs.Looks.{look_back, known_as, moves, constants, is_active_of, is_floated_of}
-use Rattle.mm_layers.specs.Moves.{in_force}
+use Rattle.mm_tables.specs.Moves.{in_force}
 use Rattle.mm_scope.specs.Moves.{stack, pop, IsBalanced}
 use Rattle.mm_scope.specs.declared.ending.Ending.{Ending}
 use Rattle.mm_scope.specs.declared.ending.Ending.TheVariants.{Active, Floated}

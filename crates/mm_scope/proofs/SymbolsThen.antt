@@ -5,11 +5,11 @@ use Rattle.std.proofs.lemmas.List.{append-nil}
 use Rattle.std.proofs.Math.ListN.{get_or-eq_default}
 use Rattle.std.specs.List.{list_any, position_or_len}
 use Rattle.std.specs.Str.{bytes_eq}
-use Rattle.mm_layers.specs.Moves.{in_force}
-use Rattle.mm_names.specs.Standings.{Standings}
-use Rattle.mm_names.specs.Tables.{nothing, found_by, found_in, standing_at}
-use Rattle.mm_names.specs.declared.table.Found.{Found}
-use Rattle.mm_names.specs.Texts.{with_text}
+use Rattle.mm_tables.specs.Moves.{in_force}
+use Rattle.mm_tables.specs.Standings.{Standings}
+use Rattle.mm_tables.specs.Tables.{nothing, found_by, found_in, standing_at}
+use Rattle.mm_tables.specs.declared.table.Found.{Found}
+use Rattle.mm_tables.specs.Texts.{with_text}
 use Rattle.mm_scope.specs.Contents.{events_of, past_before, variables_at, symbol_by, is_active_number, active_symbol_at, symbols_of}
 use Rattle.mm_scope.specs.Events.{Event, constant, variable, float, essential, asserted, theorem, distinct, opened, closed, symbols, labels, variable_moves, active_variables}
 use Rattle.mm_scope.specs.Looks.{constants, moves, is_active_of, look_back, known_as}

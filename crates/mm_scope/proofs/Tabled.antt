@@ -4,7 +4,7 @@ use Rattle.std.proofs.lemmas.List.{length-take}
 use Rattle.std.specs.List.{list_any}
 use Rattle.mm_tokens.specs.Bytes.{is_bad}
 use Rattle.mm_tokens.specs.Pieces.{pieces_of, open_in}
-use Rattle.mm_names.specs.Tables.{standing_at}
+use Rattle.mm_tables.specs.Tables.{standing_at}
 use Rattle.mm_scope.specs.ByTables.{tables_of}
 use Rattle.mm_scope.specs.Contents.{events_in, events_of, is_read, labels_of, statements_of, symbols_of, active_at, variables_at, distinct_at, past_before, IsSound}
 use Rattle.mm_scope.specs.Contexts.{Context, context_of, state_of}

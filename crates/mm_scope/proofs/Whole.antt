@@ -4,7 +4,7 @@ use Rattle.mm_tokens.specs.declared.pieces.Token.{Token as Run}
 use Rattle.mm_tokens.specs.declared.pieces.Span.{Span}
 use Rattle.mm_tokens.specs.declared.pieces.Piece.{Piece}
 use Rattle.mm_tokens.specs.declared.pieces.Piece.TheVariants.{Token, Comment, Open}
-use Rattle.mm_words.specs.Words.{word_of}
+use Rattle.mm_tokens.specs.Words.{word_of}
 use Rattle.mm_scope.specs.Events.{Event, put}
 use Rattle.mm_scope.specs.Steps.{State, step_by}
 use Rattle.mm_scope.specs.Contexts.{Context, add_to, answers, empty_state}

@@ -2,7 +2,7 @@
 use Rattle.std.specs.Prelude.{◌≡◌, ◌≤◌, ◌<◌, ℕ, Bool, true, not, ◌&&◌, ◌||◌, ◌==◌, List, [], Option, None, Some, Result, Ok, Err, is_ok, length, position, slice_index_or, count_by, All, nat_le, nat_lt, ◌∷◌, if◌then◌else◌}
 use Rattle.std.specs.List.{list_any}
 use Rattle.std.specs.Str.{bytes_eq}
-use Rattle.mm_distinct.specs.Distinct.{pairs_among}
+use Rattle.mm_tables.specs.Distinct.{pairs_among}
 use Rattle.mm_tokens.specs.declared.pieces.Span.{Span}
 use Rattle.mm_scope.specs.Databases.{database_of}
 use Rattle.mm_scope.specs.Events.{Event, symbols, labels, statements, active_hypotheses, active_variables, active_distinct}

@@ -3,19 +3,19 @@ use Rattle.std.specs.Prelude.{◌≡◌, ℕ, ◌-◌, true, false, not, ◌==�
 use Rattle.std.specs.List.{list_any}
 use Rattle.std.specs.Str.{bytes_eq}
 use Rattle.mm_tokens.specs.declared.pieces.Span.{Span}
-use Rattle.mm_layers.specs.Layered.{Layered}
-use Rattle.mm_layers.specs.Layered as layers
-use Rattle.mm_names.specs.Texts.{with_text}
+use Rattle.mm_tables.specs.Layered.{Layered}
+use Rattle.mm_tables.specs.Layered as layers
+use Rattle.mm_tables.specs.Texts.{with_text}
 use Rattle.mm_scope.specs.Events.{Event, constant, variable, float, essential, asserted, theorem, distinct, opened, closed}
 use Rattle.mm_stated.specs.Statements.{stated}
 use Rattle.mm_stated.specs.Mandatory.{an_assertion_with}
 use Rattle.mm_stated.specs.Needed.{needed_by}
-use Rattle.mm_names.specs.Standings.{Standings}
+use Rattle.mm_tables.specs.Standings.{Standings}
 use Rattle.mm_stated.specs.Stated.{Stated, a_hypothesis}
 use Rattle.mm_scope.specs.Steps.{Answers, State}
-use Rattle.mm_names.specs.Tables.{nothing, found_in, with_symbol, with_state, standing_at}
+use Rattle.mm_tables.specs.Tables.{nothing, found_in, with_symbol, with_state, standing_at}
 use Rattle.mm_scope.specs.Until.{ended_before}
-use Rattle.mm_names.specs.declared.table.Standing.{Standing}
+use Rattle.mm_tables.specs.declared.table.Standing.{Standing}
 use Rattle.mm_stated.specs.declared.statement.Kind.{Kind}
 use Rattle.mm_stated.specs.declared.statement.Kind.TheVariants as kind
 use Rattle.mm_scope.specs.declared.ending.Ending.{Ending}

@@ -3,7 +3,7 @@ use Rattle.std.specs.Prelude.{ℕ, ◌+◌, ◌-◌, Bool, false, List, Option, 
 use Rattle.std.specs.Option.{option_map}
 use Rattle.mm_tokens.specs.declared.pieces.Span.{Span}
 use Rattle.mm_scope.specs.Contents.{stated_at}
-use Rattle.mm_words.specs.Folding.{folded, holds, StandsIn}
+use Rattle.mm_tokens.specs.Folding.{folded, holds, StandsIn}
 
 -- between the `$(` and the `$)` of a comment
 abbrev pub inside : Span → Span

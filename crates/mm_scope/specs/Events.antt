@@ -1,9 +1,9 @@
 -- What stands in a database, and what follows from it. A past is a list of events, the newest first.
 use Rattle.std.specs.Prelude.{ℕ, zero, List, [], ◌∷◌, ◌++◌, Option, length, drop}
-use Rattle.mm_names.specs.Texts.{with_text}
+use Rattle.mm_tables.specs.Texts.{with_text}
 use Rattle.mm_tokens.specs.declared.pieces.Span.{Span}
-use Rattle.mm_layers.specs.Moves.{Move, in_force}
-use Rattle.mm_layers.specs.Moves as move
+use Rattle.mm_tables.specs.Moves.{Move, in_force}
+use Rattle.mm_tables.specs.Moves as move
 use Rattle.mm_stated.specs.Mandatory.{an_assertion}
 use Rattle.mm_stated.specs.Stated.{Stated, a_hypothesis}
 use Rattle.mm_stated.specs.declared.statement.Kind.TheVariants as kind

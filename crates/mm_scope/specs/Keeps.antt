@@ -1,9 +1,9 @@
 -- The tables of a database against its bytes.
 use Rattle.std.specs.Prelude.{◌≡◌, ◌<◌, ℕ, true, List, Some, length, map, slice_get, slice_index, ◌==◌, Option}
 use Rattle.std.specs.List.{list_any}
-use Rattle.mm_layers.specs.Layered.{Layered}
-use Rattle.mm_names.specs.Standings.{Standings}
-use Rattle.mm_names.specs.Tables.{standing_at}
+use Rattle.mm_tables.specs.Layered.{Layered}
+use Rattle.mm_tables.specs.Standings.{Standings}
+use Rattle.mm_tables.specs.Tables.{standing_at}
 use Rattle.mm_scope.specs.Until.{is_active_by}
 use Rattle.mm_scope.specs.Contents.{is_read, events_of, past_before, symbols_of, labels_of, statements_of, active_at, variables_at, distinct_at, IsSound}
 use Rattle.mm_scope.specs.Events.{symbols}

@@ -3,8 +3,8 @@ use Rattle.std.specs.Prelude.{ℕ, zero, Bool, true, false, not, ◌==◌, List,
 use Rattle.std.specs.List.{list_any}
 use Rattle.std.specs.Str.{bytes_eq}
 use Rattle.mm_scope.specs.Events.{Event, constant, variable, float, opened, closed, symbols, labels, open_blocks}
-use Rattle.mm_layers.specs.Moves.{Move, in_force}
-use Rattle.mm_layers.specs.Moves as move
+use Rattle.mm_tables.specs.Moves.{Move, in_force}
+use Rattle.mm_tables.specs.Moves as move
 use Rattle.mm_scope.specs.Steps.{Answers}
 use Rattle.mm_scope.specs.declared.ending.Ending.{Ending}
 use Rattle.mm_scope.specs.declared.ending.Ending.TheVariants.{Active, Floated}

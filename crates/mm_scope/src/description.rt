@@ -5,8 +5,7 @@ ghost use Rattle.mm_scope.specs.Contents.{labels_of, stated_at};
 ghost use Rattle.mm_scope.specs.Description.{inside, description_of, says, Says, usage_phrase, change_phrase, is_usage_guarded, is_change_guarded};
 
 use crate::database::{Database, StmtId};
-use mm_tokens::Span;
-use mm_words::holds;
+use mm_tokens::{Span, holds};
 
 /// Between the `$(` and the `$)` of a comment.
 fn inside(comment: Span) -> Span

@@ -4,8 +4,7 @@ ghost use Rattle.std.specs.List.{list_any};
 ghost use Rattle.std.specs.Prelude.{◌≡◌, ◌==◌, [], ◌∷◌, ◌++◌, IfOk, MatchOption};
 
 use crate::database::{Database, StmtId};
-use mm_distinct::Pair;
-use mm_layers::Trail;
+use mm_tables::{Pair, Trail};
 use std::alloc::{AllocError, Global};
 use std::marker::Model;
 

@@ -21,4 +21,4 @@ pub use fault::ReadFault;
 pub use frame::{Active, ActivePairs, Frame, Ids, Pairs, Symbols};
 pub use laws::{first_bytes_decide, labels_differ, symbols_are_declared};
 pub use mm_stated::Kind;
-pub use mm_words::white_space_folds;
+pub use mm_tokens::white_space_folds;

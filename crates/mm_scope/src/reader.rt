@@ -3,7 +3,7 @@
 ghost use Rattle.std.specs.Prelude.{◌≡◌, ◌<◌, ◌^◌, ◌==◌, [], ◌∷◌, ◌++◌, length, not, fold, drop, take, Ok, OnOk};
 ghost use Rattle.std.specs.List.{list_any};
 ghost use Rattle.std.specs.Str.{bytes_eq};
-ghost use Rattle.mm_names.specs.Tables.{found_in};
+ghost use Rattle.mm_tables.specs.Tables.{found_in};
 ghost use Rattle.mm_scope.specs.Contexts.{Gives, state_of, context_of, answers, add_to, finished, finished_hypothesis, finished_assertion, ended, closed_block, noted};
 ghost use Rattle.mm_stated.specs.Statements.{stated};
 ghost use Rattle.mm_scope.specs.Until.{ended_before};
@@ -13,12 +13,9 @@ ghost use Rattle.mm_scope.specs.Events.{essential, asserted};
 use crate::ending::{Block, Ending};
 use crate::fault::ReadFault;
 use crate::mode::Mode;
-use mm_distinct::Partings;
-use mm_layers::Layers;
-use mm_names::{Gathered, NOTHING, Names, Standing, SymbolTable};
 use mm_stated::{Kind, Statement, mandatory_of, variables_of};
-use mm_tokens::Span;
-use mm_words::{Word, is_bad_label, is_bad_symbol};
+use mm_tables::{Gathered, Layers, NOTHING, Names, Partings, Standing, SymbolTable};
+use mm_tokens::{Span, Word, is_bad_label, is_bad_symbol};
 use std::alloc::Global;
 
 /// The longest statement, in symbols.

@@ -9,11 +9,8 @@ ghost use Rattle.mm_scope.specs.Reading.{after, read_from, step, without_comment
 use crate::fault::ReadFault;
 use crate::mode::Mode;
 use crate::reader::Reader;
-use mm_distinct::Partings;
-use mm_layers::Layers;
-use mm_names::{Gathered, Names, SymbolTable};
-use mm_tokens::{Piece, Scanner, Token};
-use mm_words::word_of;
+use mm_tables::{Gathered, Layers, Names, Partings, SymbolTable};
+use mm_tokens::{Piece, Scanner, Token, word_of};
 use std::alloc::Global;
 
 /// A reader that has read nothing.

@@ -1,7 +1,7 @@
 //! Frames, pairs and symbols of a small database.
 
-use mm_distinct::Pair;
 use mm_scope::{Database, StmtId, Sym};
+use mm_tables::Pair;
 use std::alloc::Global;
 use std::test::Fail;
 

@@ -33,7 +33,7 @@ use Rattle.mm_edit.specs.Outcome as assigning
 use Rattle.mm_edit.specs.Outcome.{assigned}
 use Rattle.mm_edit.specs.declared.fault.AssignFault.{AssignFault}
 use Rattle.mm_edit.specs.declared.fault.AssignFault.TheVariants as unassigned
-use Rattle.mm_forms.specs.Labels.{label_at}
+use Rattle.mm_plain.specs.Labels.{label_at}
 use Rattle.mm_sound.specs.Complete.{has_unknown}
 use Rattle.mm_save.specs.Saving.{names_pairs, saved}
 use Rattle.mm_subst.specs.Statements.{statement_of}

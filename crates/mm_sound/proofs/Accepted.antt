@@ -6,7 +6,7 @@ use Rattle.std.specs.List.{AllByRecursion as ByRecursion}
 use Rattle.std.specs.Str.{bytes_eq}
 use Rattle.mm_tokens.specs.Pieces.{pieces_of, tokens_in}
 use Rattle.mm_tokens.specs.declared.pieces.Token.{Token}
-use Rattle.mm_words.specs.Words.{is_bad_label}
+use Rattle.mm_tokens.specs.Words.{is_bad_label}
 use Rattle.mm_scope.specs.Contents.{is_read, stated_at, labels_of}
 use Rattle.mm_stated.specs.declared.statement.Kind.TheVariants.{Theorem}
 use Rattle.mm_subst.specs.Statements.{statement_of}
@@ -19,8 +19,8 @@ use Rattle.mm_stack.specs.declared.outcome.ProofFault.{ProofFault}
 use Rattle.mm_stack.specs.declared.outcome.StackFault.TheVariants.{WrongResult}
 use Rattle.mm_stack.specs.declared.outcome.Verdict.TheVariants.{Accepted, Faulty}
 use Rattle.mm_stack.specs.declared.step.Step.{Step}
-use Rattle.mm_forms.specs.Labels.{label_at}
-use Rattle.mm_forms.proofs.Labels.{has_label}
+use Rattle.mm_plain.specs.Labels.{label_at}
+use Rattle.mm_plain.proofs.Labels.{has_label}
 use Rattle.mm_sound.specs.Complete.{labels_in, spelled}
 use Rattle.mm_sound.specs.Proves.{Proves}
 use Rattle.mm_sound.specs.Written.{texts_in, word_for, written}

@@ -3,7 +3,7 @@ use Rattle.std.proofs.Common.{◌≡◌, ℕ, Bool, true, false, cond, not, ◌&
 use Rattle.std.proofs.lemmas.Bool.{false≢true}
 use Rattle.std.proofs.lemmas.List.Elements.{recursion_from_All}
 use Rattle.std.specs.List.{flat_map, list_any, AllByRecursion as ByRecursion}
-use Rattle.mm_distinct.specs.Distinct.{are_distinct, holds_both}
+use Rattle.mm_tables.specs.Distinct.{are_distinct, holds_both}
 use Rattle.mm_scope.specs.Contents.{is_variable_of}
 use Rattle.mm_subst.specs.Substitutions.{Pairs, value_at, value_of, or_itself}
 use Rattle.mm_subst.specs.Symbols.{is_same}

@@ -11,7 +11,7 @@ use Rattle.mm_stated.specs.declared.statement.Kind.TheVariants as kind
 use Rattle.mm_subst.specs.Substitutions.{Pairs}
 use Rattle.mm_stack.specs.Substitution.{value_of, instance}
 use Rattle.mm_stack.specs.Running.{Argument, arguments, is_float, begins_with, has_typecode, substitution_of, is_instance}
-use Rattle.mm_forms.proofs.Forms.{formed, no_other}
+use Rattle.mm_plain.proofs.Forms.{formed, no_other}
 use Rattle.mm_sound.proofs.Strings.{meaning}
 
 -- a `$f` has a constant and a variable

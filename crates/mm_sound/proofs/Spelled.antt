@@ -7,7 +7,7 @@ use Rattle.std.specs.List.{list_any, AllByRecursion as ByRecursion}
 use Rattle.std.specs.Str.{bytes_eq}
 use Rattle.mm_tokens.specs.Pieces.{pieces_of, tokens_in}
 use Rattle.mm_tokens.specs.declared.pieces.Token.{Token}
-use Rattle.mm_words.specs.Words.{is_bad_label}
+use Rattle.mm_tokens.specs.Words.{is_bad_label}
 use Rattle.mm_scope.specs.Contents.{stated_at, labels_of, find_label, active_at}
 use Rattle.mm_stated.specs.Stated.{is_hypothesis}
 use Rattle.mm_stated.specs.declared.statement.Kind.{Kind}
@@ -25,9 +25,9 @@ use Rattle.mm_stack.specs.Decoding.{after, step_by, labelled, step_of, steps_fro
 use Rattle.mm_stack.specs.declared.outcome.ProofFault.TheVariants.{HypothesisNotActive, NotEarlier}
 use Rattle.mm_stack.specs.declared.step.Step.{Step}
 use Rattle.mm_stack.specs.declared.step.Step.TheVariants.{Hyp, Apply, Unknown}
-use Rattle.mm_forms.specs.Labels.{label_at}
-use Rattle.mm_forms.proofs.Forms.{no_other}
-use Rattle.mm_forms.proofs.Labels.{has_label}
+use Rattle.mm_plain.specs.Labels.{label_at}
+use Rattle.mm_plain.proofs.Forms.{no_other}
+use Rattle.mm_plain.proofs.Labels.{has_label}
 use Rattle.mm_sound.specs.Complete.{labels_in, step_for, spelled}
 use Rattle.mm_sound.specs.Written.{texts_in, word_for, written}
 

@@ -1,6 +1,6 @@
 -- Distinct pairs in a proof (Metamath book, section 4.2.2).
 use Rattle.std.specs.Prelude.{◌≡◌, ℕ, true, List, [], Option, None, Some, filter_map, All}
-use Rattle.mm_distinct.specs.Distinct.{are_distinct}
+use Rattle.mm_tables.specs.Distinct.{are_distinct}
 use Rattle.mm_scope.specs.Contents.{stated_at}
 use Rattle.mm_subst.specs.Substitutions.{value_of}
 use Rattle.mm_subst.specs.declared.symbol.WSym.{WSym}

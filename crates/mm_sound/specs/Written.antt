@@ -1,7 +1,7 @@
 -- Proofs as they are written: a label for each step, in postorder.
 use Rattle.std.specs.Prelude.{ℕ, List, [], ◌∷◌, map, Option, None, Some, slice_range}
 use Rattle.mm_tokens.specs.Pieces.{pieces_of, tokens_in}
-use Rattle.mm_forms.specs.Labels.{label_at}
+use Rattle.mm_plain.specs.Labels.{label_at}
 use Rattle.mm_plain.specs.declared.plain.Plain.{Plain}
 use Rattle.mm_sound.specs.Complete.{labels_in}
 

@@ -14,7 +14,7 @@ ghost use Rattle.mm_stack.specs.Accepting.{Accepts, verdict_by, verdict_of};
 ghost use Rattle.mm_stack.specs.declared.outcome.ProofFault.{ProofFault};
 ghost use Rattle.mm_stack.specs.declared.outcome.Verdict.TheVariants.{Accepted, Incomplete};
 ghost use Rattle.mm_stack.specs.declared.step.Step.{Step};
-ghost use Rattle.mm_forms.specs.Labels.{label_at};
+ghost use Rattle.mm_plain.specs.Labels.{label_at};
 ghost use Rattle.mm_sound.specs.Apart.{IsApart};
 ghost use Rattle.mm_sound.specs.Complete.{IsComplete, IsSettled, has_unknown, spelled};
 ghost use Rattle.mm_sound.specs.Numbers.{numbers};

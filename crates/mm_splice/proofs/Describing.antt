@@ -5,9 +5,9 @@ use Rattle.mm_tokens.specs.declared.pieces.Span.{Span}
 use Rattle.mm_tokens.specs.declared.pieces.Piece.{Piece}
 use Rattle.mm_tokens.specs.declared.pieces.Piece.TheVariants.{Token, Comment, Open}
 use Rattle.mm_tokens.specs.Pieces.{pieces_of}
-use Rattle.mm_words.specs.Words.{word_of, is_bad_label, is_bad_symbol}
-use Rattle.mm_words.specs.declared.word.Word.{Word}
-use Rattle.mm_words.specs.declared.word.Word.TheVariants as word
+use Rattle.mm_tokens.specs.Words.{word_of, is_bad_label, is_bad_symbol}
+use Rattle.mm_tokens.specs.declared.word.Word.{Word}
+use Rattle.mm_tokens.specs.declared.word.Word.TheVariants as word
 use Rattle.mm_scope.specs.Databases.{nothing_read}
 use Rattle.mm_scope.specs.Events.{Event, put, constant, variable, float, essential, asserted, theorem, distinct, opened, closed, statements, open_blocks}
 use Rattle.mm_scope.specs.Looks.{look_back}

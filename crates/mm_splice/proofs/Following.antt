@@ -3,9 +3,9 @@ use Rattle.std.proofs.Common.{◌≡◌, ℕ, zero, suc, Bool, true, false, not,
 use Rattle.std.proofs.lemmas.List.{map-append, length-map}
 use Rattle.std.specs.Option.{option_map}
 use Rattle.std.specs.Str.{bytes_eq}
-use Rattle.mm_names.specs.Texts.{with_text}
-use Rattle.mm_layers.specs.Moves.{in_force}
-use Rattle.mm_layers.specs.Moves as move
+use Rattle.mm_tables.specs.Texts.{with_text}
+use Rattle.mm_tables.specs.Moves.{in_force}
+use Rattle.mm_tables.specs.Moves as move
 use Rattle.mm_tokens.specs.declared.pieces.Span.{Span}
 use Rattle.mm_scope.specs.Contents.{past_before}
 use Rattle.mm_scope.specs.Events.{Event, constant, variable, float, essential, asserted, theorem, distinct, opened, closed, symbols, labels, hypothesis_moves, active_hypotheses, variable_moves, active_variables, distinct_moves, active_distinct, statements, open_blocks}

@@ -9,12 +9,12 @@ use Rattle.mm_scope.specs.Databases.{database_of}
 use Rattle.mm_scope.specs.Events.{Event, labels, symbols, statements, active_hypotheses, active_variables, active_distinct}
 use Rattle.mm_scope.specs.Looks.{constants, look_back}
 use Rattle.mm_stated.specs.Mandatory.{statement_at, variables_of}
-use Rattle.mm_distinct.specs.Distinct.{pairs_among}
+use Rattle.mm_tables.specs.Distinct.{pairs_among}
 use Rattle.mm_stated.specs.Stated.{Stated, no_statement, is_hypothesis, typecode_of}
 use Rattle.mm_scope.specs.declared.fault.ReadFault.{ReadFault}
 use Rattle.mm_stated.specs.declared.statement.Kind.TheVariants as kind
 use Rattle.mm_scope.proofs.ContentsLemmas.{is_read-length}
-use Rattle.mm_words.specs.Folding.{folded, holds}
+use Rattle.mm_tokens.specs.Folding.{folded, holds}
 use Rattle.mm_scope.specs.Description.{inside, description_of, says, usage_phrase, change_phrase}
 use Rattle.mm_tokens.specs.declared.pieces.Span.{Span}
 use Rattle.std.specs.Option.{option_map}

@@ -7,8 +7,8 @@ use Rattle.mm_tokens.specs.declared.pieces.Token.{Token as Run}
 use Rattle.mm_tokens.specs.declared.pieces.Span.{Span}
 use Rattle.mm_tokens.specs.declared.pieces.Piece.{Piece}
 use Rattle.mm_tokens.specs.declared.pieces.Piece.TheVariants.{Token}
-use Rattle.mm_words.specs.Words.{word_of}
-use Rattle.mm_words.specs.declared.word.Word.TheVariants as word
+use Rattle.mm_tokens.specs.Words.{word_of}
+use Rattle.mm_tokens.specs.declared.word.Word.TheVariants as word
 use Rattle.mm_scope.specs.Databases.{database_of, read_by, at_the_end, at_end_of_file, unless_open, unless_begun, nothing_read}
 use Rattle.mm_scope.specs.Events.{Event, open_blocks}
 use Rattle.mm_scope.specs.Judged.{is_long, judged, before_bad}

@@ -7,8 +7,8 @@ use Rattle.mm_tokens.specs.declared.pieces.Token.{Token as Run}
 use Rattle.mm_tokens.specs.declared.pieces.Piece.{Piece}
 use Rattle.mm_tokens.specs.declared.pieces.Piece.TheVariants.{Token, Comment, Open}
 use Rattle.mm_tokens.specs.Parts.{IsMark}
-use Rattle.mm_words.specs.Words.{word_of, keyword_of}
-use Rattle.mm_words.specs.declared.word.Word.TheVariants as word
+use Rattle.mm_tokens.specs.Words.{word_of, keyword_of}
+use Rattle.mm_tokens.specs.declared.word.Word.TheVariants as word
 use Rattle.mm_scope.specs.Reading.{text_of}
 use Rattle.mm_splice.specs.Moved.{move_piece}
 use Rattle.mm_splice.proofs.Bytes.{FailsEach, fails_at}

@@ -1,7 +1,7 @@
 -- Which variables an assertion puts together that must differ (Metamath book, section 4.2.2).
 use Rattle.std.specs.Prelude.{ℕ, ◌==◌, List, [], ◌∷◌, filter, if◌then◌else◌}
 use Rattle.std.specs.List.{flat_map}
-use Rattle.mm_distinct.specs.Distinct.{are_distinct}
+use Rattle.mm_tables.specs.Distinct.{are_distinct}
 use Rattle.mm_scope.specs.Contents.{is_variable_of}
 use Rattle.mm_stack.specs.declared.outcome.StackFault.{StackFault}
 use Rattle.mm_stack.specs.declared.outcome.StackFault.TheVariants.{SameVariable, MissingDistinct}

@@ -8,8 +8,8 @@ use crate::instance::value;
 use crate::outcome::StackFault;
 use crate::stack::Stack;
 use crate::values::Values;
-use mm_distinct::{Pair, Parted};
 use mm_scope::{Database, Sym};
+use mm_tables::{Pair, Parted};
 
 /// The fault of two variables that must differ at a step.
 fn fault_of(parted: &Parted, number: u64, u: u32, v: u32) -> Option<StackFault>

@@ -15,8 +15,8 @@ use crate::outcome::{StackFault, Verdict};
 use crate::stack::Stack;
 use crate::step::Step;
 use crate::values::Values;
-use mm_distinct::Parted;
 use mm_scope::{Database, Kind, StmtId};
+use mm_tables::Parted;
 use std::alloc::{AllocError, Global};
 
 /// Why a run stops before its end.

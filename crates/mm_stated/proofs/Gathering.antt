@@ -3,9 +3,9 @@ use Rattle.std.proofs.Common.{◌≡◌, ◌<◌, ◌+◌, ℕ, List, [], ◌++�
 use Rattle.std.proofs.lemmas.List.{drop_more}
 use Rattle.std.proofs.lemmas.List.Elements.{filter_map-append}
 use Rattle.std.proofs.lemmas.List.Sums.{fold-append}
-use Rattle.mm_names.specs.Marked.{with_number}
-use Rattle.mm_names.specs.Standings.{Standings}
-use Rattle.mm_names.specs.Tables.{standing_at}
+use Rattle.mm_tables.specs.Marked.{with_number}
+use Rattle.mm_tables.specs.Standings.{Standings}
+use Rattle.mm_tables.specs.Tables.{standing_at}
 use Rattle.mm_stated.specs.Mandatory.{statement_at}
 use Rattle.mm_stated.specs.Needed.{float_of, floats_of, candidates}
 use Rattle.mm_stated.specs.Stated.{Stated}

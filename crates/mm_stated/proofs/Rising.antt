@@ -6,7 +6,7 @@ use Rattle.std.proofs.lemmas.List.Sorted.{IsNonDecreasingBy-from_sort, list_any-
 use Rattle.std.specs.List.{list_any, IsDistinct}
 use Rattle.std.specs.List.Sorted.{IsSorted, IsPermutation, IsStrictlyIncreasing}
 use Rattle.std.specs.Cmp.{IsEquivalence}
-use Rattle.mm_names.specs.Marked.{with_number}
+use Rattle.mm_tables.specs.Marked.{with_number}
 use Rattle.mm_stated.specs.Needed.{put_in, rising}
 use Rattle.std.proofs.lemmas.List.Folds.{list_any-append}
 

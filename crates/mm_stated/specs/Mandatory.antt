@@ -2,7 +2,7 @@
 use Rattle.std.specs.Prelude.{ℕ, Bool, true, false, ◌==◌, List, [], ◌++◌, Option, slice_index, slice_index_or, filter, filter_map, flat_map, if◌then◌else◌}
 use Rattle.std.specs.List.{list_any}
 use Rattle.mm_tokens.specs.declared.pieces.Span.{Span}
-use Rattle.mm_distinct.specs.Distinct.{pairs_among}
+use Rattle.mm_tables.specs.Distinct.{pairs_among}
 use Rattle.mm_stated.specs.Stated.{Stated, no_statement, is_essential, variable_of}
 use Rattle.mm_stated.specs.declared.statement.Kind.{Kind}
 use Rattle.mm_stated.specs.declared.statement.Kind.TheVariants as kind

@@ -1,8 +1,8 @@
 -- The mandatory hypotheses of an assertion by the table of symbols and the active `$e`.
 use Rattle.std.specs.Prelude.{ℕ, ◌==◌, nat_lt, List, [], ◌∷◌, ◌++◌, Option, None, Some, filter_map, flat_map, if◌then◌else◌}
-use Rattle.mm_names.specs.Standings.{Standings}
-use Rattle.mm_names.specs.Tables.{standing_at}
-use Rattle.mm_names.specs.declared.table.Standing.{Standing}
+use Rattle.mm_tables.specs.Standings.{Standings}
+use Rattle.mm_tables.specs.Tables.{standing_at}
+use Rattle.mm_tables.specs.declared.table.Standing.{Standing}
 use Rattle.mm_stated.specs.Mandatory.{statement_at}
 use Rattle.mm_stated.specs.Stated.{Stated}
 

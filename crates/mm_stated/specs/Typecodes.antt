@@ -1,7 +1,7 @@
 -- The typecodes of the variables that `$f` statements give.
 use Rattle.std.specs.Prelude.{◌≡◌, ℕ, Bool, ◌==◌, List, filter_map}
 use Rattle.std.specs.List.{list_any}
-use Rattle.mm_names.specs.Marked.{is_marked}
+use Rattle.mm_tables.specs.Marked.{is_marked}
 use Rattle.mm_stated.specs.Stated.{Stated, typecode_of}
 
 abbrev pub is_typecode_among : List Stated → ℕ → Bool

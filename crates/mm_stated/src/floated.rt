@@ -7,7 +7,7 @@ ghost use Rattle.mm_stated.specs.Stated.{typecode_of};
 
 use crate::mandatory::mark_all;
 use crate::statement::{Kind, Statement};
-use mm_names::Marks;
+use mm_tables::Marks;
 use std::alloc::{AllocError, Global};
 
 /// The typecode of a `$f`; none of another statement.

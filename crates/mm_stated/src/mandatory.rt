@@ -6,10 +6,10 @@ ghost use Rattle.mm_stated.specs.Statements.{stated};
 ghost use Rattle.mm_stated.specs.Mandatory.{statement_at, variables_of};
 ghost use Rattle.mm_stated.specs.Needed.{floats_of, candidates, needed_by};
 ghost use Rattle.mm_stated.specs.Stated.{variable_of};
-ghost use Rattle.mm_names.specs.Marked.{is_marked, with_number};
+ghost use Rattle.mm_tables.specs.Marked.{is_marked, with_number};
 
 use crate::statement::{Kind, Statement};
-use mm_names::{Gathered, Marks, SymbolTable};
+use mm_tables::{Gathered, Marks, SymbolTable};
 use std::alloc::{AllocError, Global};
 
 /// Marks each of the numbers.

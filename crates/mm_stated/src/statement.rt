@@ -1,6 +1,6 @@
 //! Labelled statements.
 
-use mm_distinct::Pair;
+use mm_tables::Pair;
 use mm_tokens::Span;
 
 /// The kinds of labelled statements: `$f`, `$e`, `$a` and `$p` (Metamath book, section 4.1.3).

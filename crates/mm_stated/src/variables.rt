@@ -2,11 +2,11 @@
 
 ghost use Rattle.std.specs.Prelude.{◌≡◌, ◌&&◌, not, filter, IfOk};
 ghost use Rattle.std.specs.List.{range_with_len};
-ghost use Rattle.mm_names.specs.Marked.{is_marked};
+ghost use Rattle.mm_tables.specs.Marked.{is_marked};
 ghost use Rattle.mm_stated.specs.Ordered.{ordered_variables};
 
 use crate::mandatory::mark_all;
-use mm_names::Marks;
+use mm_tables::Marks;
 use std::alloc::{AllocError, Global};
 
 /// The numbers below `count` with an active mark and no other, rising.

@@ -5,3 +5,5 @@ pub mod Parts
 pub mod Scan
 pub mod Contents
 pub mod Reading
+pub mod Words
+pub mod Folding

@@ -6,17 +6,21 @@
 
 mod bytes;
 mod fault;
+mod folding;
 mod laws;
 mod list;
 mod pieces;
 mod reading;
 mod runs;
 mod scanner;
+mod word;
 
 pub use bytes::{bad_byte, is_graphic, is_white};
 pub use fault::TokenFault;
+pub use folding::{holds, white_space_folds};
 pub use laws::pieces_are_parts;
 pub use list::Tokens;
 pub use pieces::{Piece, Span, Token};
 pub use reading::tokens;
 pub use scanner::Scanner;
+pub use word::{Word, is_bad_label, is_bad_symbol, word_of};

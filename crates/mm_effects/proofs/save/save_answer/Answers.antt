@@ -2,7 +2,7 @@ use Rattle.std.proofs.Common.{◌≡◌, ℕ, List, [], subst, sym}
 use Rattle.std.proofs.lemmas.Option.{get_or_from_slice_get}
 use Rattle.mm_scope.specs.Contents.{labels_of}
 use Rattle.mm_subst.specs.Statements.{statement_of}
-use Rattle.mm_forms.specs.Labels.{label_at}
+use Rattle.mm_plain.specs.Labels.{label_at}
 use Rattle.mm_effects.specs.Texts.{save_text}
 use Rattle.mm_plain.proofs.Owned.{own-valid}
 use Rattle.mm_effects.proofs.SaveLemmas.{answered}

@@ -1,6 +1,6 @@
 use Rattle.std.proofs.Common.{◌||◌, nat_eq, ap, ◌∙◌}
 use Rattle.std.specs.List.{list_any}
-use Rattle.mm_names.specs.Marked.{is_marked}
+use Rattle.mm_tables.specs.Marked.{is_marked}
 use Rattle.mm_stated.specs.Statements.{stated}
 use Rattle.mm_stated.specs.Stated.{typecode_of}
 use Rattle.mm_stated.proofs.Gathered.{gathered}

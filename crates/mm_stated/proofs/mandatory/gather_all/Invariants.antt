@@ -1,5 +1,5 @@
 use Rattle.std.proofs.Common.{◌≡◌, drop, fold}
-use Rattle.mm_names.specs.Marked.{with_number}
+use Rattle.mm_tables.specs.Marked.{with_number}
 use Rattle.mm_stated.proofs.mandatory.gather_all.Given as goal
 
 abbrev pub invariant-loop-number : goal.invariant-loop-number

@@ -1,5 +1,5 @@
 use Rattle.std.proofs.Common.{◌≡◌, drop, fold}
-use Rattle.mm_names.specs.Marked.{with_number}
+use Rattle.mm_tables.specs.Marked.{with_number}
 use Rattle.mm_stated.specs.Needed.{floats_of}
 use Rattle.mm_stated.proofs.mandatory.gather_floats.Given as goal
 

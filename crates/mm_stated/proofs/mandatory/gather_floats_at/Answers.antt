@@ -1,5 +1,5 @@
 use Rattle.std.proofs.Common.{ℕ, List, ◌∙◌, ◌+◌, ap, arith, drop, flat_map, fold, map}
-use Rattle.mm_names.specs.Marked.{with_number}
+use Rattle.mm_tables.specs.Marked.{with_number}
 use Rattle.mm_stated.specs.Statements.{stated}
 use Rattle.mm_stated.specs.Mandatory.{statement_at}
 use Rattle.mm_stated.specs.Needed.{floats_of}

@@ -1,3 +1,0 @@
-mod Distinct
-mod Numbered
-mod Layering

@@ -1,6 +1,0 @@
-use Rattle.std.proofs.Common.{◌≡◌, ◌++◌, take}
-use Rattle.mm_distinct.specs.Distinct.{pairs_with}
-use Rattle.mm_distinct.proofs.parted.Parted.add_pairs.Given as goal
-
-abbrev pub invariant-loop-second : goal.invariant-loop-second
-invariant-loop-second l = l.pairs.items ≡ l.fn.pairs.items ++ pairs_with l.self l.first (take l.second-index l.later)

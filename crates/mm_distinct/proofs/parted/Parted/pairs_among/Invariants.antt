@@ -1,6 +1,0 @@
-use Rattle.std.proofs.Common.{◌≡◌, ◌++◌, drop}
-use Rattle.mm_distinct.specs.Distinct.{pairs_among}
-use Rattle.mm_distinct.proofs.parted.Parted.pairs_among.Given as goal
-
-abbrev pub invariant-loop-place : goal.invariant-loop-place
-invariant-loop-place l = l.pairs.items ++ pairs_among l.self (drop l.place l.variables) ≡ pairs_among l.self l.variables

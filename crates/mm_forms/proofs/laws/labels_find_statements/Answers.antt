@@ -1,5 +1,0 @@
-use Rattle.mm_forms.proofs.Labels.{has_label}
-use Rattle.mm_forms.proofs.laws.labels_find_statements.Goals as goal
-
-pub returns : goal.returns
-returns c = has_label c.args.bytes.now

@@ -1,2 +1,0 @@
-pub mod LookBack
-mod Chains

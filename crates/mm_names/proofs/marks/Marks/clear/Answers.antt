@@ -1,5 +1,0 @@
-use Rattle.mm_names.proofs.Marking.{next_turn}
-use Rattle.mm_names.proofs.marks.Marks.clear.Goals as goal
-
-pub returns-else-self : goal.returns-else-self
-returns-else-self c = λ n. next_turn c.self.inside.stamps.items c.self.inside.turn n c.self.invariant.1

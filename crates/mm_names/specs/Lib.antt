@@ -1,4 +1,0 @@
-pub mod Texts
-pub mod Standings
-pub mod Tables
-pub mod Marked

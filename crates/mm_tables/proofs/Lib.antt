@@ -1,0 +1,7 @@
+mod Tables
+mod Marking
+pub mod LookBack
+mod Chains
+mod Distinct
+mod Numbered
+mod Layering

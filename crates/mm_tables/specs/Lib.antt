@@ -1,0 +1,10 @@
+pub mod Texts
+pub mod Standings
+pub mod Tables
+pub mod Marked
+pub mod Moves
+pub mod Layered
+pub mod Trails
+pub mod Distinct
+pub mod Numbering
+pub mod Parting

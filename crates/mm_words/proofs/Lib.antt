@@ -1,2 +1,0 @@
-pub mod Phrases
-mod Folds
