@@ -1,10 +1,10 @@
 //! Nodes of proof trees.
 
-ghost use Rattle.std.specs.Prelude.{◌≡◌, ◌+◌, ◌<◌, ◌≤◌, ◌^◌, ◌++◌, map, is_none, OnOk};
+ghost use Rattle.std.specs.Prelude.{◌≡◌, ◌+◌, ◌<◌, ◌≤◌, ◌^◌, ◌++◌, map, is_none, None, OnOk};
 ghost use Rattle.mm_plain.specs.Shape.{size_of, height_of, greatest, unknown, known, step_at, put, seat, depth_at, target_of, steps_of};
 ghost use Rattle.mm_plain.specs.Sources.{label_of, is_pending};
 ghost use Rattle.mm_plain.specs.Numbers.{labels_in, numbers_from, unknowns_among, HasOwnLabels};
-ghost use Rattle.std.specs.List.{sum_by, last_or};
+ghost use Rattle.std.specs.List.{flat_map, sum_by, last_or};
 
 use crate::sources::is_source;
 use mm_base::Made;
@@ -14,13 +14,14 @@ use std::alloc::AllocError;
 use std::marker::Model;
 use std::mem;
 
-/// A step with the steps below it. It is counted as it is made, and knows how many steps and levels it has.
+/// A step with the steps below it. It is counted as it is made, and knows how many steps, levels and unknown steps it has.
 #[cycle(node)]
 #[derive(Drop)]
 pub struct Node {
     made: Made,
     steps: u64,
     levels: u64,
+    unknowns: u64,
     step: Step,
 }
 
@@ -46,9 +47,10 @@ impl Model for Node {
     ghost view = { λ a. plain_of a.step };
 
     ghost use Rattle.mm_plain.specs.Shape.{size_of, height_of};
+    ghost use Rattle.mm_plain.specs.Numbers.{labels_in, unknowns_among};
     ghost use Rattle.std.specs.Prelude.{◌≡◌};
 
-    ghost invariant = { λ a. (a.steps ≡ size_of (plain_of a.step)) × (a.levels ≡ height_of (plain_of a.step)) };
+    ghost invariant = { λ a. (a.steps ≡ size_of (plain_of a.step)) × (a.levels ≡ height_of (plain_of a.step)) × (a.unknowns ≡ unknowns_among (labels_in (plain_of a.step))) };
 
     ghost size = { size_of };
 
@@ -67,6 +69,7 @@ impl Node {
             made,
             steps: 1,
             levels: 1,
+            unknowns: 1,
             step: Step::Unknown(target),
         }
     }
@@ -80,6 +83,7 @@ impl Node {
             made,
             steps: steps_over(kids.as_slice()),
             levels: levels_over(kids.as_slice()),
+            unknowns: unknowns_over(kids.as_slice()),
             step: Step::Known(target, label, sigma, kids),
         }
     }
@@ -126,6 +130,7 @@ impl Node {
                     kids[i].put(left, new);
                     self.steps = steps_over(kids.as_slice());
                     self.levels = levels_over(kids.as_slice());
+                    self.unknowns = unknowns_over(kids.as_slice());
                 } else {
                     replace(self, new);
                 }
@@ -182,35 +187,30 @@ impl Node {
 
     /// How many steps are unknown.
     pub fn unknowns(&self) -> u64
-        requires { size_of self.now < 2 ^ 63 }
         ensures { result ≡ unknowns_among (labels_in self.now) }
     {
-        match &self.step {
-            Step::Known(_, _, _, kids) => {
-                let mut unknowns = 0;
-                for kid in kids {
-                    unknowns += kid.unknowns();
-                }
-                unknowns
-            }
-            Step::Unknown(_) => 1,
-        }
+        self.unknowns
     }
 
-    /// The number of the last unknown step, where the first step has the number `first`; `found` where there is none.
-    pub fn last_unknown(&self, first: u32, found: Option<u32>) -> Option<u32>
+    /// The number of the last unknown step, where the first step has the number `first`; `None` where there is none. Of the
+    /// children only those from the last one that has unknown steps on are looked at.
+    pub fn last_unknown(&self, first: u32) -> Option<u32>
         requires { first + size_of self.now < 2 ^ 32 }
-        ensures { result ≡ last_or found (numbers_from is_none first (labels_in self.now)) }
+        ensures { result ≡ last_or None (numbers_from is_none first (labels_in self.now)) }
     {
         match &self.step {
             Step::Known(_, _, _, kids) => {
-                let mut next = first;
-                let mut last = found;
-                for kid in kids {
-                    last = kid.last_unknown(next, last);
-                    next += kid.size() as u32;
+                let mut number = first + self.steps as u32 - 1;
+                let mut at = kids.len();
+                while at > 0 {
+                    at -= 1;
+                    let kid = &kids[at];
+                    number -= kid.size() as u32;
+                    if kid.unknowns() > 0 {
+                        return kid.last_unknown(number);
+                    }
                 }
-                last
+                None
             }
             Step::Unknown(_) => Some(first),
         }
@@ -292,4 +292,16 @@ fn levels_over(kids: &[Node]) -> u64
         levels = levels.max(kid.height());
     }
     levels + 1
+}
+
+/// How many steps are unknown below a step over these children.
+fn unknowns_over(kids: &[Node]) -> u64
+    requires { sum_by size_of kids.now < 2 ^ 63 }
+    ensures { result ≡ unknowns_among (flat_map labels_in kids.now) }
+{
+    let mut unknowns = 0;
+    for kid in kids {
+        unknowns += kid.unknowns();
+    }
+    unknowns
 }

@@ -128,7 +128,7 @@ impl Tree {
     pub fn last_unknown(&self) -> Option<u32>
         ensures { result ≡ last_unknown_of (labels_in self.now.proof.plain) }
     {
-        self.root.last_unknown(1, None)
+        self.root.last_unknown(1)
     }
 
     /// The numbers of the pending steps, in order: those that are known, and whose string is not what their statement

@@ -1,39 +1,65 @@
-use Rattle.std.proofs.Common.{ap, sym, ◌∙◌, arith, is_none}
-use Rattle.std.specs.List.{last_or}
-use Rattle.std.proofs.lemmas.List.Sums.{sum_by_more}
+use Rattle.std.proofs.Common.{◌≡◌, ◌+◌, ◌-◌, ◌<◌, ◌≤◌, ℕ, length, take, None, is_none, ap, sym, refl, ◌∙◌, arith}
+use Rattle.std.specs.List.{sum_by, last_or}
+use Rattle.std.proofs.lemmas.List.{take_all}
+use Rattle.mm_plain.specs.declared.plain.Plain.{Plain}
 use Rattle.mm_plain.specs.Shape.{size_of}
 use Rattle.mm_plain.specs.Numbers.{labels_in, numbers_from}
-use Rattle.mm_plain.proofs.Walks.{kid-below, last-walked, last-more, labels_in-unknown}
+use Rattle.mm_plain.proofs.Equations.{size_of-known}
+use Rattle.mm_plain.proofs.Walks.{kid-below, last-walked, labels_in-unknown}
 use Rattle.mm_tree.specs.View.{plain_of}
+use Rattle.mm_tree.proofs.Unknowns.{last_among, last-here, last-before, number-before}
 use Rattle.mm_tree.proofs.node.Node.+last_unknown.Goals as goal
 
-pub last_unknown-last-requires : goal.last_unknown-last-requires
-last_unknown-last-requires t c =
-    let below = kid-below c.in-Known.field-0 c.in-Known.field-1 c.in-Known.field-2 c.in-Known.kids.items c.deref-kid-items.result.now c.args.self.now c.kid-item.result c.loop-kid.kid-index
-    (ap plain_of (sym c.in-Known.is) ∙ c.self.view_is) c.deref-kid-items.ensures.value c.loop-kid-test.true c.kid-item.is in
-    (omega (arith, c.decreases), omega (arith, c.requires, c.loop-kid.invariant.number))
+pub overflow_sub-number : goal.overflow_sub-number
+overflow_sub-number t c = omega (
+  arith,
+  c.self.invariant.0,
+  ap (λ s. size_of (plain_of s)) c.in-Known.is,
+  size_of-known c.in-Known.field-0 c.in-Known.field-1 c.in-Known.field-2 c.in-Known.kids.items,
+)
 
-pub overflow_add-next : goal.overflow_add-next
-overflow_add-next t c =
-    let below = kid-below c.in-Known.field-0 c.in-Known.field-1 c.in-Known.field-2 c.in-Known.kids.items c.deref-kid-items.result.now c.args.self.now c.kid-item.result c.loop-kid.kid-index
-    (ap plain_of (sym c.in-Known.is) ∙ c.self.view_is) c.deref-kid-items.ensures.value c.loop-kid-test.true c.kid-item.is in
-    omega (arith, c.requires, c.loop-kid.invariant.number)
+pub loop-at-init : goal.loop-at-init
+loop-at-init t c =
+    let all : length c.in-Known.kids.items ≤ c.len-at.result = omega (arith, c.len-at.ensures, c.in-Known.kids.ok.0) in
+    record {
+      some = omega (arith, c.len-at.ensures, c.in-Known.kids.ok.0);
+      number = omega (
+        arith,
+        c.self.invariant.0,
+        ap (λ s. size_of (plain_of s)) c.in-Known.is,
+        size_of-known c.in-Known.field-0 c.in-Known.field-1 c.in-Known.field-2 c.in-Known.kids.items,
+        ap (sum_by size_of) (take_all c.len-at.result c.in-Known.kids.items all),
+      );
+      last = last-walked c.in-Known.field-0 c.in-Known.field-1 c.in-Known.field-2 c.in-Known.kids.items c.in-Known.kids.items c.args.self.now c.len-at.result c.args.first None
+          (ap plain_of (sym c.in-Known.is) ∙ c.self.view_is) refl all;
+    }
 
-pub loop-kid-preserved : goal.loop-kid-preserved
-loop-kid-preserved t c = record {
-  number = omega (arith, sum_by_more size_of c.deref-kid-items.result.now c.loop-kid.kid-index c.kid-item.result c.loop-kid-test.true, ap size_of c.kid-item.is, c.loop-kid.invariant.number);
-  so_far = c.last_unknown-last.ensures
-      ∙ ap (λ o. last_or o (numbers_from is_none c.loop-kid.next (labels_in c.kid-item.result))) c.loop-kid.invariant.so_far
-      ∙ last-more c.deref-kid-items.result.now c.loop-kid.kid-index c.args.first c.loop-kid.next c.kid-item.result c.args.found c.loop-kid-test.true c.kid-item.is c.loop-kid.invariant.number;
-}
+pub returns-then-unknowns-gt0 : goal.returns-then-unknowns-gt0
+returns-then-unknowns-gt0 t c =
+    let z : c.loop-at.at - 1 + 1 ≡ c.loop-at.at = omega (arith, c.loop-at-test.true) in
+    let h : c.loop-at.at - 1 < length c.in-Known.kids.items = omega (arith, c.loop-at-test.true, c.loop-at.invariant.some) in
+    let number = number-before c.in-Known.kids.items (c.loop-at.at - 1) c.args.first c.loop-at.number c.size.result c.index-kid.result.now h c.index-kid.ensures
+    (c.loop-at.invariant.number ∙ ap (λ (i : ℕ). c.args.first + sum_by size_of (take i c.in-Known.kids.items)) (sym z)) c.size.ensures in
+    c.last_unknown.ensures
+    ∙ last-here c.in-Known.kids.items (c.loop-at.at - 1) c.args.first (c.loop-at.number - c.size.result) c.index-kid.result.now h c.index-kid.ensures number (omega (arith, c.if-unknowns-gt0.true, c.unknowns.ensures))
+    ∙ ap (λ (i : ℕ). last_among c.args.first (take i c.in-Known.kids.items)) z
+    ∙ c.loop-at.invariant.last
 
-pub returns-after-loop-kid : goal.returns-after-loop-kid
-returns-after-loop-kid t c =
-    c.loop-kid.invariant.so_far
-    ∙ last-walked c.in-Known.field-0 c.in-Known.field-1 c.in-Known.field-2 c.in-Known.kids.items c.deref-kid-items.result.now c.args.self.now c.loop-kid.kid-index c.args.first c.args.found
-    (ap plain_of (sym c.in-Known.is) ∙ c.self.view_is) c.deref-kid-items.ensures.value c.loop-kid-test.false
+pub loop-at-preserved : goal.loop-at-preserved
+loop-at-preserved t c =
+    let z : c.loop-at.at - 1 + 1 ≡ c.loop-at.at = omega (arith, c.loop-at-test.true) in
+    let h : c.loop-at.at - 1 < length c.in-Known.kids.items = omega (arith, c.loop-at-test.true, c.loop-at.invariant.some) in
+    let number = number-before c.in-Known.kids.items (c.loop-at.at - 1) c.args.first c.loop-at.number c.size.result c.index-kid.result.now h c.index-kid.ensures
+    (c.loop-at.invariant.number ∙ ap (λ (i : ℕ). c.args.first + sum_by size_of (take i c.in-Known.kids.items)) (sym z)) c.size.ensures in
+    record {
+      some = omega (arith, c.loop-at.invariant.some);
+      number = number;
+      last = last-before c.in-Known.kids.items (c.loop-at.at - 1) c.args.first (c.loop-at.number - c.size.result) c.index-kid.result.now h c.index-kid.ensures number (omega (arith, c.if-unknowns-gt0.false, c.unknowns.ensures))
+          ∙ ap (λ (i : ℕ). last_among c.args.first (take i c.in-Known.kids.items)) z
+          ∙ c.loop-at.invariant.last;
+    }
 
 pub returns-in-Unknown : goal.returns-in-Unknown
 returns-in-Unknown t c =
-    sym (ap (λ n. last_or c.args.found (numbers_from is_none c.args.first n)) (labels_in-unknown c.in-Unknown.field-0))
-    ∙ ap (λ x. last_or c.args.found (numbers_from is_none c.args.first (labels_in x))) (ap plain_of (sym c.in-Unknown.is) ∙ c.self.view_is)
+    sym (ap (λ n. last_or None (numbers_from is_none c.args.first n)) (labels_in-unknown c.in-Unknown.field-0))
+    ∙ ap (λ (x : Plain). last_or None (numbers_from is_none c.args.first (labels_in x))) (ap plain_of (sym c.in-Unknown.is) ∙ c.self.view_is)
