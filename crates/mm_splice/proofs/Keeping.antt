@@ -1,17 +1,15 @@
 -- Replacing a theorem's proof keeps the rest.
-use Rattle.std.proofs.Common.{◌≡◌, ◌≢◌, ℕ, zero, suc, ◌+◌, ◌-◌, Bool, true, false, ◌<◌, ◌≤◌, not, List, [], ◌∷◌, map, cond, filter_map, Option, None, Some, length, get_or, slice_range, nat_eq, Result, Ok, Err, is_ok, refl, sym, ◌∙◌, ap, arith, ◌⊎◌, inl, inr}
-use Rattle.std.proofs.lemmas.Bool.{false≢true}
+use Rattle.std.proofs.Common.{◌≡◌, ◌≢◌, ℕ, zero, suc, ◌+◌, ◌-◌, Bool, true, false, ◌<◌, ◌≤◌, not, List, [], ◌∷◌, map, cond, filter_map, Option, None, Some, length, get_or, slice_range, nat_eq, Ok, is_ok, refl, sym, ◌∙◌, ap, arith, ◌⊎◌, inl, inr}
 use Rattle.std.specs.List.{list_any}
 use Rattle.mm_tokens.specs.Pieces.{pieces_of}
 use Rattle.mm_scope.specs.Contents.{is_read, events_in, events_of, labels_of, symbols_of, statements_of, stated_at, past_before, active_at, variables_at, distinct_at, is_variable_of, symbol_by, active_symbol_at, active_of, active_pairs_of, ordered_at, is_typecode_of}
 use Rattle.mm_stated.specs.Ordered.{ordered_variables}
 use Rattle.mm_scope.specs.Databases.{database_of}
-use Rattle.mm_scope.specs.Events.{Event, labels, symbols, statements, active_hypotheses, active_variables, active_distinct}
+use Rattle.mm_scope.specs.Events.{labels, symbols, statements, active_hypotheses, active_variables, active_distinct}
 use Rattle.mm_scope.specs.Looks.{constants, look_back}
 use Rattle.mm_stated.specs.Mandatory.{statement_at, variables_of}
 use Rattle.mm_tables.specs.Distinct.{pairs_among}
 use Rattle.mm_stated.specs.Stated.{Stated, no_statement, is_hypothesis, typecode_of}
-use Rattle.mm_scope.specs.declared.fault.ReadFault.{ReadFault}
 use Rattle.mm_stated.specs.declared.statement.Kind.TheVariants as kind
 use Rattle.mm_scope.proofs.ContentsLemmas.{is_read-length}
 use Rattle.mm_tokens.specs.Folding.{folded, holds}
@@ -23,20 +21,12 @@ use Rattle.mm_splice.specs.Keeping.{proof_at, description_text, KeepsTheRest}
 use Rattle.mm_splice.specs.Moved.{move_span, move_event, move_stated}
 use Rattle.mm_splice.specs.Splicing.{spliced, is_proof_text, moved}
 use Rattle.mm_splice.proofs.Bytes.{IsText, is_text, low_moved, high_moved}
-use Rattle.mm_splice.proofs.Finding.{proof_found, Precedes, precedes, below_all, in_order, InOrder, whole_proofs}
 use Rattle.mm_splice.proofs.Following.{labels_moved, symbols_moved, statements_moved, before_moved, hypotheses_same, variables_same, groups_same, constants_moved, look_back_moved, floated_moved, typecodes_moved}
-use Rattle.mm_splice.proofs.Gluing.{apart, upto_all, range_head, range_tail, range_text, from_stays, to_moves, from_is_late}
-use Rattle.mm_splice.proofs.Parts.{AreEnded, ended}
-use Rattle.mm_splice.proofs.Proofs.{IsProof, AreProofs}
-use Rattle.mm_splice.proofs.Replacing.{IsWhole, whole_of, database_replaced}
-
-ok_events : (r : Result (List Event) ReadFault) → is_ok r ≡ true → r ≡ Ok (events_in r)
-ok_events (Ok past) e = refl
-ok_events (Err x) e = absurd (false≢true e)
-
-read_events : (bytes : List ℕ) → is_read bytes ≡ true → database_of bytes ≡ Ok (events_of bytes)
-unfolding is_read events_of
-read_events bytes e = ok_events (database_of bytes) e
+use Rattle.mm_splice.proofs.Gluing.{apart, range_head, range_tail, range_text, from_stays, to_moves}
+use Rattle.mm_splice.proofs.Parts.{AreEnded}
+use Rattle.mm_splice.proofs.Placing.{read_events, whole_read, all_in_order, pieces_end, proof_stands, proof_within, proof_precedes, proofs_in_order}
+use Rattle.mm_splice.proofs.Proofs.{IsProof}
+use Rattle.mm_splice.proofs.Replacing.{database_replaced}
 
 get_map : (g : Stated → Stated) (d : Stated) → g d ≡ d → (ss : List Stated) (j : ℕ) → get_or (map g ss) j d ≡ g (get_or ss j d)
 get_map g d e [] j = sym e
@@ -72,18 +62,11 @@ module _ (bytes : List ℕ) (id : ℕ) (text : List ℕ) (read : is_read bytes �
   abbrev new : List ℕ
   new = spliced bytes id text
 
-  whole : IsWhole bytes (events_of bytes)
-  whole = whole_of bytes (events_of bytes) (is_read-length bytes read) (read_events bytes read)
-
-  proofs : AreProofs bytes (pieces_of bytes) (events_of bytes)
-  proofs = whole_proofs bytes (events_of bytes) whole
-
   is : IsProof bytes (pieces_of bytes) from to
-  unfolding statements_of
-  is = proof_found bytes (pieces_of bytes) (events_of bytes) id proofs theorem
+  is = proof_stands bytes read id theorem
 
   all : AreEnded (pieces_of bytes)
-  all = ended (pieces_of bytes) whole.ended
+  all = pieces_end bytes read
 
   fit : IsText text
   fit = is_text text good
@@ -176,42 +159,27 @@ module _ (bytes : List ℕ) (id : ℕ) (text : List ℕ) (read : is_read bytes �
   unfolding active_symbol_at
   active_symbols j t = ap (λ past. symbol_by (look_back past t)) (before j) ∙ ap symbol_by (look_back_moved f (past_before j (events_of bytes)) t)
 
-  order : InOrder (length bytes) (events_of bytes)
-  order = in_order bytes (pieces_of bytes) (length bytes) (events_of bytes) (upto_all bytes) proofs
-
-  -- a proof rises, and stands among the bytes
-  below : (j : ℕ) → ((stated_at bytes j).from ≤ (stated_at bytes j).to) × ((stated_at bytes j).to ≤ length bytes)
-  unfolding statements_of
-  below j = below_all (length bytes) (events_of bytes) j order
-
-  precede : (i j : ℕ) → i < j → Precedes (stated_at bytes i) (stated_at bytes j)
-  unfolding statements_of
-  precede i j up = precedes (length bytes) (events_of bytes) i j up order
-
   -- another proof ends before this one or begins after it
   clear : (j : ℕ) → j ≢ id → ((stated_at bytes j).to ≤ from) ⊎ (to ≤ (stated_at bytes j).from)
   clear j ne = elim (apart_or j id ne) [
-    | inl less ↦ elim (precede j id less) [
-      | inl up ↦ inl up
-      | inr none ↦ absurd (omega (arith, none.0, from_is_late bytes from to is all))
-    ]
-    | inr more ↦ elim (precede id j more) [ inl up ↦ inr up | inr none ↦ inl (omega (arith, none.1)) ]
+    | inl less ↦ inl (proofs_in_order bytes read j id less theorem)
+    | inr more ↦ elim (proof_precedes bytes read id j more) [ inl up ↦ inr up | inr none ↦ inl (omega (arith, none.1)) ]
   ]
 
   other_proofs : (j : ℕ) → j ≢ id → proof_at new j ≡ proof_at bytes j
   other_proofs j ne =
       ap (λ s. slice_range new s.from s.to) (stated_same j)
       ∙ elim (clear j ne) [
-        | inl h ↦ range_head bytes from to is all text fit (stated_at bytes j).from (stated_at bytes j).to (below j).0 h
-        | inr h ↦ range_tail bytes from to is all text fit (stated_at bytes j).from (stated_at bytes j).to (below j).0 h (below j).1
+        | inl h ↦ range_head bytes from to is all text fit (stated_at bytes j).from (stated_at bytes j).to (proof_within bytes read j).0 h
+        | inr h ↦ range_tail bytes from to is all text fit (stated_at bytes j).from (stated_at bytes j).to (proof_within bytes read j).0 h (proof_within bytes read j).1
       ]
 
   described : AreDescribed (length bytes) (events_of bytes)
-  described = whole_described bytes (events_of bytes) whole
+  described = whole_described bytes (events_of bytes) (whole_read bytes read)
 
   description_clear : (j : ℕ) → StandsClear (stated_at bytes id) (stated_at bytes j).described
   unfolding statements_of
-  description_clear j = stands_clear (length bytes) (events_of bytes) id j order described
+  description_clear j = stands_clear (length bytes) (events_of bytes) id j (all_in_order bytes read) described
 
   description_within : (j : ℕ) → Between 0 (length bytes) (stated_at bytes j).described
   unfolding statements_of

@@ -8,8 +8,11 @@ mod Texts
 mod Gluing
 mod Replacing
 mod Finding
+mod Placing
 pub mod Keeping
 mod Memory
 mod Judging
 pub mod Verdicts
 mod Describing
+mod Overlaying
+pub mod Agreeing

@@ -1,11 +1,13 @@
 -- Replacing a theorem's proof changes no other verdict.
-use Rattle.std.proofs.Common.{◌≡◌, ◌≢◌, ℕ, true, not, List, Some, position, nat_eq, sym, ◌∙◌, ap}
+use Rattle.std.proofs.Common.{◌≡◌, ◌≢◌, ℕ, true, not, List, Some, Result, position, nat_eq, refl, sym, ◌∙◌, ap}
 use Rattle.std.specs.List.{list_any}
 use Rattle.std.specs.Str.{bytes_eq}
 use Rattle.mm_scope.specs.Contents.{is_read, events_of, stated_at, find_label, is_variable_of}
 use Rattle.mm_scope.specs.Looks.{constants}
 use Rattle.mm_stack.specs.Accepting.{Accepts, verdict_by, verdict_of}
 use Rattle.mm_stack.specs.Decoding.{after, decoded, is_compressed, steps_in, unless_empty}
+use Rattle.mm_stack.specs.declared.outcome.ProofFault.{ProofFault}
+use Rattle.mm_stack.specs.declared.step.Step.{Step}
 use Rattle.mm_splice.specs.Judging.{JudgesTheRest, spelled, is_compressed_text}
 use Rattle.mm_splice.specs.Keeping.{KeepsTheRest, proof_at}
 use Rattle.mm_splice.specs.Splicing.{spliced, moved}
@@ -26,6 +28,13 @@ module _ (bytes : List ℕ) (id : ℕ) (text : List ℕ) (read : is_read bytes �
   spelled_by : (j : ℕ) (old_proof new_proof : List ℕ) → new_proof ≡ old_proof → after (steps_in new j new_proof) unless_empty ≡ after (steps_in bytes j old_proof) unless_empty
   spelled_by j old_proof new_proof e = ap (λ p. after (steps_in new j p) unless_empty) e ∙ ap (λ r. after r unless_empty) (spells j old_proof)
 
+  -- a text spells the same steps, and the same comes of steps
+  pub spelled_stays : (j : ℕ) (proof : List ℕ) → spelled new j proof ≡ spelled bytes j proof
+  spelled_stays j proof = spelled_by j proof proof refl
+
+  pub comes_stays : (j : ℕ) (steps : Result (List Step) ProofFault) → verdict_by new j steps ≡ verdict_by bytes j steps
+  comes_stays j steps = comes_same bytes new (moved bytes id text) keeps.stated_kept keeps.labels_kept keeps.hypotheses_kept keeps.distinct_kept variables j steps
+
   decodes : (j : ℕ) → j ≢ id → decoded new j ≡ decoded bytes j
   unfolding decoded
   decodes j ne = spelled_by j (proof_at bytes j) (proof_at new j) (keeps.proofs_kept j ne)
@@ -36,8 +45,7 @@ module _ (bytes : List ℕ) (id : ℕ) (text : List ℕ) (read : is_read bytes �
   verdicts : (j : ℕ) → j ≢ id → verdict_of new j ≡ verdict_of bytes j
   unfolding verdict_of
   verdicts j ne =
-      ap (verdict_by new j) (decodes j ne)
-      ∙ comes_same bytes new (moved bytes id text) keeps.stated_kept keeps.labels_kept keeps.hypotheses_kept keeps.distinct_kept variables j (decoded bytes j)
+      ap (verdict_by new j) (decodes j ne) ∙ comes_stays j (decoded bytes j)
 
   found : (label : List ℕ) → find_label new label ≡ find_label bytes label
   found label = ap (position (bytes_eq label)) keeps.labels_kept
@@ -77,8 +85,7 @@ module _ (bytes : List ℕ) (id : ℕ) (text : List ℕ) (read : is_read bytes �
   own_comes : verdict_of new id ≡ verdict_by bytes id (spelled bytes id text)
   unfolding verdict_of
   own_comes =
-      ap (verdict_by new id) own
-      ∙ comes_same bytes new (moved bytes id text) keeps.stated_kept keeps.labels_kept keeps.hypotheses_kept keeps.distinct_kept variables id (spelled bytes id text)
+      ap (verdict_by new id) own ∙ comes_stays id (spelled bytes id text)
 
   pub judges_the_rest : JudgesTheRest bytes id text
   judges_the_rest = record {

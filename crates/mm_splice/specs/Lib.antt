@@ -3,3 +3,5 @@ pub mod Splicing
 pub mod Keeping
 pub mod Answered
 pub mod Judging
+pub mod Overlay
+pub mod Agreeing

@@ -12,6 +12,9 @@ mod tests;
 mod text;
 
 pub use fault::SpliceFault;
-pub use laws::{splicing_keeps, splicing_keeps_verdicts};
+pub use laws::{
+    last_saves_decide, saves_decide_verdicts, saves_overlay_the_file, splicing_keeps,
+    splicing_keeps_verdicts,
+};
 pub use replace::splice;
 pub use text::is_proof_text;

@@ -1,6 +1,9 @@
 //! A test over a small database.
 
-use crate::laws::{splicing_keeps, splicing_keeps_verdicts};
+use crate::laws::{
+    last_saves_decide, saves_decide_verdicts, saves_overlay_the_file, splicing_keeps,
+    splicing_keeps_verdicts,
+};
 use crate::replace::splice;
 use crate::text::is_proof_text;
 use mm_scope::{Database, Kind};
@@ -41,6 +44,9 @@ fn replaced(
     if !is_proof_text(text) {
         return Err("no text of a proof".into());
     }
+    saves_overlay_the_file(database.bytes());
+    saves_decide_verdicts(database.bytes());
+    last_saves_decide(database.bytes());
     match splice(alloc, database, id, text) {
         Ok(spliced) => {
             if spliced.bytes().len() <= 134_217_728 {
