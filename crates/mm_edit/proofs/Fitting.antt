@@ -47,8 +47,8 @@ short-each sigma (h ∷ hs) e =
     let b = either (nat_lt most_symbols (length (applied sigma h))) (list_any (λ h. nat_lt most_symbols (length (applied sigma h))) hs) e in
     (not-longer (length (applied sigma h)) b.0, short-each sigma hs b.1)
 
-pub short-premises : (bytes : List ℕ) (id : ℕ) (sigma : Pairs) → is_too_long bytes id sigma ≡ false → All (λ h. length (applied sigma h) ≤ 32768) (premises_of bytes id)
-short-premises bytes id sigma e = All-from_recursion (λ h. length (applied sigma h) ≤ 32768) (premises_of bytes id) (short-each sigma (premises_of bytes id) e)
+pub short-premises : (bytes : List ℕ) (id : ℕ) (sigma : Pairs) → is_too_long bytes id sigma ≡ false → All (λ h. length (applied sigma h) ≤ most_symbols) (premises_of bytes id)
+short-premises bytes id sigma e = All-from_recursion (λ h. length (applied sigma h) ≤ most_symbols) (premises_of bytes id) (short-each sigma (premises_of bytes id) e)
 
 statements-all : (c : Setting) (ids : List ℕ) → ByRecursion (IsString c) (map (statement_of c.bytes) ids)
 statements-all c [] = tt

@@ -1,9 +1,8 @@
 -- A step of a valid proof may name a statement with the one match of the two.
 use Rattle.std.proofs.Common.{◌≡◌, ℕ, ◌+◌, ◌-◌, ◌<◌, Bool, true, false, ◌||◌, ◌==◌, List, [], ◌∷◌, ◌++◌, length, take, drop, if◌then◌else◌, refl, sym, ◌∙◌, ap, arith}
-use Rattle.std.proofs.lemmas.Bool.{true≢false, false≢true}
+use Rattle.std.proofs.lemmas.Bool.{false≢true}
 use Rattle.std.proofs.Math.Seq.{take-append_seam, drop-append_seam}
 use Rattle.std.proofs.Common.{append_assoc}
-use Rattle.std.specs.List.{list_any}
 use Rattle.mm_subst.specs.declared.symbol.WSym.{WSym}
 use Rattle.mm_subst.specs.declared.symbol.WSym.TheVariants.{Work}
 use Rattle.mm_subst.specs.declared.brackets.Brackets.{Brackets}
@@ -16,41 +15,14 @@ use Rattle.mm_match.specs.declared.items.Item.TheVariants.{Fixed, Hole}
 use Rattle.mm_match.specs.declared.matched.Matched.TheVariants.{Unique}
 use Rattle.mm_match.specs.declared.values.Part.{Part}
 use Rattle.mm_match.specs.Items.{Filling, filled}
-use Rattle.mm_match.specs.Keys.{once}
 use Rattle.mm_match.specs.Matches.{IsOnlyMatch, MayBeNamed}
 use Rattle.mm_match.specs.Parts.{part, IsValue}
 use Rattle.mm_match.specs.Settled.{Fills, paired}
 use Rattle.mm_match.proofs.Answering.{own_items, may_be_named}
-use Rattle.mm_match.proofs.Pairing.{eqb-comm, keys-paired, applied-paired, valued, paired-valued, IsProper-valued, All-paired, paired-apart}
+use Rattle.mm_match.proofs.Pairing.{keys-paired, applied-paired, valued, paired-valued, IsProper-valued, All-paired, paired-apart}
+use Rattle.mm_match.proofs.Occurring.{occurs, changed_at, eqb-itself, filled_else}
 use Rattle.mm_match.proofs.Solving.{IsValue-work}
 use Rattle.mm_match.proofs.Walks.{balanced-append}
-
-abbrev has_hole : ℕ → Item → Bool
-has_hole k (Fixed x) = false
-has_hole k (Hole m) = k == m
-
-abbrev occurs : ℕ → List Item → Bool
-occurs k items = list_any (has_hole k) items
-
--- a filling with another string for one key
-abbrev changed_at : ℕ → List WSym → Filling → Filling
-changed_at k d rho j = if j == k then d else rho j
-
-neither : (a b : Bool) → (a || b) ≡ false → (a ≡ false) × (b ≡ false)
-neither true b h = absurd (true≢false h)
-neither false b h = (refl, h)
-
-eqb-itself : (n : ℕ) → n == n ≡ true
-eqb-itself n = grind arith
-
--- where the key does not occur it makes no difference
-filled_else : (k : ℕ) (d : List WSym) (rho : Filling) (xs : List Item) → occurs k xs ≡ false → filled (changed_at k d rho) xs ≡ filled rho xs
-filled_else k d rho [] h = refl
-filled_else k d rho (Fixed x ∷ xs) h = ap (λ (s : List WSym). x ∷ s) (filled_else k d rho xs h)
-filled_else k d rho (Hole m ∷ xs) h =
-    let w : (k == m ≡ false) × (occurs k xs ≡ false) = neither (k == m) (occurs k xs) h in
-    let e : m == k ≡ false = eqb-comm m k ∙ w.0 in
-    ap (λ (b : Bool). (if b then d else rho m) ++ filled (changed_at k d rho) xs) e ∙ ap (λ (s : List WSym). rho m ++ s) (filled_else k d rho xs w.1)
 
 -- where it occurs its string is a part of what is made
 hole_part : (rho : Filling) (k : ℕ) (xs : List Item) → occurs k xs ≡ true → (a : List WSym) × (b : List WSym) × (filled rho xs ≡ a ++ (rho k ++ b))
@@ -82,7 +54,7 @@ module _ (bytes : List ℕ) (id : ℕ) (t : List WSym) (sigma : Pairs) (h : IsOn
   bs = brackets_of bytes
 
   abbrev keys : List ℕ
-  keys = once (variables_for bytes id)
+  keys = variables_for bytes id
 
   abbrev items : List Item
   items = own_items bytes id

@@ -1,7 +1,7 @@
 -- The match of a statement as a function answers what a match is.
 use Rattle.std.proofs.Common.{◌≡◌, ℕ, suc, ◌+◌, ◌<◌, ◌≢◌, Bool, true, false, ◌||◌, ◌==◌, List, [], ◌∷◌, ◌++◌, map, length, refl, sym, ◌∙◌, ap, subst, arith, append_assoc, if◌then◌else◌, ◌⊎◌, inl, inr}
 use Rattle.std.proofs.lemmas.Bool.{true≢false, false≢true}
-use Rattle.std.specs.List.{filter, list_any, list_all, AllByRecursion as ByRecursion}
+use Rattle.std.specs.List.{filter, list_all, AllByRecursion as ByRecursion}
 use Rattle.std.specs.Cmp.Lexicographic.{pointwise}
 use Rattle.std.proofs.lemmas.List.Elements.{All-from_recursion}
 use Rattle.mm_subst.specs.declared.symbol.WSym.{WSym}
@@ -11,7 +11,6 @@ use Rattle.mm_subst.specs.Brackets.{brackets_of, are_balanced}
 use Rattle.mm_subst.specs.Statements.{statement_of}
 use Rattle.mm_subst.specs.Substitutions.{Pairs, applied}
 use Rattle.mm_plain.specs.Premises.{variables_for}
-use Rattle.mm_match.specs.Keys.{once}
 use Rattle.mm_match.specs.Items.{Filling, item_of, filled}
 use Rattle.mm_match.specs.Parts.{IsValue}
 use Rattle.mm_match.specs.Settled.{paired}
@@ -21,6 +20,7 @@ use Rattle.mm_match.specs.declared.items.Item.TheVariants.{Fixed, Hole}
 use Rattle.mm_match.specs.declared.matched.Matched.{Matched}
 use Rattle.mm_match.specs.declared.matched.Matched.TheVariants.{Missing, Unique, Several}
 use Rattle.mm_match.proofs.Walks.{balanced-append}
+use Rattle.mm_match.proofs.Occurring.{occurs, eqb-itself}
 use Rattle.mm_match.proofs.Solving.{IsValue-work}
 use Rattle.mm_match.proofs.Pairing.{applied-paired, valued, paired-valued, IsProper-valued, paired-same, paired-apart}
 use Rattle.mm_edit.specs.Ways.{is_string, is_pair, prefixes, parts, any_values, values_for, choices, ways, unless_several, counted, matched_of}
@@ -115,41 +115,30 @@ is-choice vs (n ∷ ns) rho h =
 
 -- a filling with another string for the keys that do not occur
 
-abbrev has_hole : ℕ → Item → Bool
-has_hole k (Fixed x) = false
-has_hole k (Hole m) = k == m
-
-occurs : ℕ → List Item → Bool
-occurs k items = list_any (has_hole k) items
-
 or_else : Bool → List WSym → List WSym → List WSym
 or_else b v d = if b then v else d
 
 refilled : List WSym → List Item → Filling → Filling
 refilled d items rho k = or_else (occurs k items) (rho k) d
 
-eqb-itself : (n : ℕ) → n == n ≡ true
-eqb-itself n = grind arith
-
 true-or : (b : Bool) → (b || true) ≡ true
 true-or true = refl
 true-or false = refl
 
 filled-same : (d : List WSym) (items : List Item) (rho : Filling) (xs : List Item) → ((k : ℕ) → occurs k xs ≡ true → occurs k items ≡ true) → filled (refilled d items rho) xs ≡ filled rho xs
-unfolding refilled occurs or_else
+unfolding refilled or_else
 filled-same d items rho [] h = refl
 filled-same d items rho (Fixed x ∷ xs) h = ap (λ (s : List WSym). x ∷ s) (filled-same d items rho xs h)
 filled-same d items rho (Hole m ∷ xs) h =
-    let here : occurs m items ≡ true = h m (ap (λ (b : Bool). b || list_any (has_hole m) xs) (eqb-itself m)) in
+    let here : occurs m items ≡ true = h m (ap (λ (b : Bool). b || occurs m xs) (eqb-itself m)) in
     ap (λ (b : Bool). or_else b (rho m) d ++ filled (refilled d items rho) xs) here
     ∙ ap (λ (s : List WSym). rho m ++ s) (filled-same d items rho xs (λ k e. h k (ap (λ (b : Bool). (k == m) || b) e ∙ true-or (k == m))))
 
 hole-part : (rho : Filling) (k : ℕ) (xs : List Item) → occurs k xs ≡ true → (a : List WSym) × (b : List WSym) × (filled rho xs ≡ a ++ (rho k ++ b))
-unfolding occurs
 hole-part rho k [] h = absurd (false≢true h)
 hole-part rho k (Fixed x ∷ xs) h = let r = hole-part rho k xs h in (x ∷ r.0, r.1, ap (λ (s : List WSym). x ∷ s) r.2)
 hole-part rho k (Hole m ∷ xs) h = at (k == m) refl h (λ g. hole-part rho k xs g) where
-  at : (b : Bool) → k == m ≡ b → (b || list_any (has_hole k) xs) ≡ true → (list_any (has_hole k) xs ≡ true → (u : List WSym) × (v : List WSym) × (filled rho xs ≡ u ++ (rho k ++ v)))
+  at : (b : Bool) → k == m ≡ b → (b || occurs k xs) ≡ true → (occurs k xs ≡ true → (u : List WSym) × (v : List WSym) × (filled rho xs ≡ u ++ (rho k ++ v)))
       → (u : List WSym) × (v : List WSym) × (filled rho (Hole m ∷ xs) ≡ u ++ (rho k ++ v))
   at true e g later = let z : m ≡ k = grind arith in ([], filled rho xs, ap (λ (j : ℕ). rho j ++ filled rho xs) z)
   at false e g later =
@@ -167,7 +156,7 @@ refilled-tried bs t d items rho e proper there k = at (occurs k items) refl wher
 -- the ways are matches, and each match is among them but for the values of what does not occur
 
 abbrev keys_of : List ℕ → ℕ → List ℕ
-keys_of bytes id = once (variables_for bytes id)
+keys_of bytes id = variables_for bytes id
 
 abbrev items_of : List ℕ → ℕ → List Item
 items_of bytes id = map (item_of (keys_of bytes id)) (statement_of bytes id)

@@ -10,7 +10,6 @@ use Rattle.mm_subst.specs.Statements.{statement_of}
 use Rattle.mm_subst.specs.Substitutions.{Pairs, applied}
 use Rattle.mm_subst.specs.Symbols.{is_same}
 use Rattle.mm_plain.specs.Premises.{variables_for}
-use Rattle.mm_match.specs.Keys.{once}
 use Rattle.mm_match.specs.declared.matched.Matched.{Matched}
 use Rattle.mm_match.specs.declared.matched.Matched.TheVariants.{Missing, Unique, Several}
 
@@ -43,7 +42,7 @@ choices values (n ∷ ns) = flat_map (λ v. map (λ s. (Var n, v) ∷ s) (choice
 -- those of them under which the statement is the string
 abbrev pub ways : List ℕ → ℕ → List WSym → List Pairs
 ways bytes id t =
-    filter (λ s. is_string (applied s (statement_of bytes id)) t) (choices (values_for (brackets_of bytes) t) (once (variables_for bytes id)))
+    filter (λ s. is_string (applied s (statement_of bytes id)) t) (choices (values_for (brackets_of bytes) t) (variables_for bytes id))
 
 abbrev pub is_pair : WSym × List WSym → WSym × List WSym → Bool
 is_pair p q = is_same p.0 q.0 && is_string p.1 q.1

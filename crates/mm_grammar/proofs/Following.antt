@@ -10,7 +10,7 @@ use Rattle.mm_scope.specs.Contents.{events_of}
 use Rattle.mm_scope.specs.Events.{Event, put, constant, variable, float, essential, asserted, theorem, distinct, opened, closed, open_blocks}
 use Rattle.mm_scope.specs.Looks.{look_back}
 use Rattle.mm_scope.specs.Reading.{text_of, step}
-use Rattle.mm_scope.specs.Steps.{Answers, State, symbol_checks, take_symbol, is_full, a_label, a_constant, a_variable, a_float, a_symbol, a_distinct, at_text, at_end, at_proof, unlabelled, at_constants, labelled, at_open, at_close, step_by}
+use Rattle.mm_scope.specs.Steps.{most_label, Answers, State, symbol_checks, take_symbol, is_full, a_label, a_constant, a_variable, a_float, a_symbol, a_distinct, at_text, at_end, at_proof, unlabelled, at_constants, labelled, at_open, at_close, step_by}
 use Rattle.mm_scope.specs.declared.mode.Mode.{Mode}
 use Rattle.mm_scope.specs.declared.mode.Mode.TheVariants as mode
 use Rattle.mm_plain.proofs.Fine.{IfFine, fine_if, fine_unless, of_each}
@@ -45,7 +45,7 @@ a_label_good s t p all =
     let a : Answers = look_back s.context t in
     fine_if (is_bad_label t) _ _ Good (λ _. tt) (λ _.
     fine_if (a.label || a.known) _ _ Good (λ _. tt) (λ off.
-    fine_if (nat_lt 255 (length t)) _ _ Good (λ _. tt) (λ _.
+    fine_if (nat_lt most_label (length t)) _ _ Good (λ _. tt) (λ _.
     let w = or_parts a.label a.known off in
     record { all = all; fits = record { label = no_label_back s.context t w.0; symbol = unknown_back s.context t w.1 } })))
 

@@ -10,7 +10,7 @@ use Rattle.mm_tokens.specs.declared.word.Word.TheVariants as word
 use Rattle.mm_scope.specs.Events.{Event, put, constant, variable, float, essential, asserted, theorem, distinct, opened, closed, symbols, open_blocks}
 use Rattle.mm_scope.specs.Laws.{IsConstant, IsInScope}
 use Rattle.mm_scope.specs.Looks.{look_back}
-use Rattle.mm_scope.specs.Steps.{Answers, State, a_label, at_text, at_end, at_proof, unlabelled, at_constants, labelled, at_open, at_close, step_by}
+use Rattle.mm_scope.specs.Steps.{most_label, Answers, State, a_label, at_text, at_end, at_proof, unlabelled, at_constants, labelled, at_open, at_close, step_by}
 use Rattle.mm_scope.specs.declared.mode.Mode.{Mode}
 use Rattle.mm_scope.specs.declared.mode.Mode.TheVariants as mode
 use Rattle.mm_grammar.specs.Phrases.{Noted, Symbol, Phrase, places, numbers, tokens, symbols_in, text_at, told, Reads, IsPlain, IsLabel, IsForm, IsSymbol}
@@ -28,7 +28,7 @@ label_plain [] h = refl
 label_plain (b ∷ t) h = false_from_ne_true (nat_eq b 36)
     (λ e. true≢false (sym (ap (λ c. not (is_label_byte c)) (eqb-true b 36 e)) ∙ (or_parts (not (is_label_byte b)) (list_any (λ c. not (is_label_byte c)) t) h).0))
 
-at_most : (k : ℕ) → k ≤ 255 → nat_lt 255 k ≡ false
+at_most : (k : ℕ) → k ≤ most_label → nat_lt most_label k ≡ false
 at_most k h = grind (arith, h)
 
 some_there : (k j : ℕ) → 1 ≤ k → j ≡ k → nat_eq j 0 ≡ false
@@ -160,7 +160,7 @@ module _ (bytes : List ℕ) (rest : List Noted) (final : List Event) where
         (stepped bytes s l t word.Text refl (plain_word t (label_plain t label.fit)) u
         (cond_no (is_bad_label t) _ _ label.fit
         ∙ cond_no (a.label || a.known) _ _ (or_from a.label a.known (label_now past t new.label) (ap (λ x. x.known) (unknown_now past t new.symbol)))
-        ∙ cond_no (nat_lt 255 (length t)) _ _ (at_most (length t) label.short)))
+        ∙ cond_no (nat_lt most_label (length t)) _ _ (at_most (length t) label.short)))
         (go bytes (at mode.Labelled past l.token.start t l.comment buf pr None) k ns final (at m past k.token.start t l.comment [] pr k.comment)
         (stepped bytes (at mode.Labelled past l.token.start t l.comment buf pr None) k keyword w reads is_word (at m past k.token.start t l.comment [] pr k.comment)
         (begins past l.token.start t l.comment buf pr k.comment (look_back past keyword) keyword k.token.start))

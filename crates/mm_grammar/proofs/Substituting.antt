@@ -94,3 +94,14 @@ module _ (bytes : List ℕ) where
         (λ c h. no_variable c h (stated_at bytes id).mandatory below) w.single
     | inr other ↦ subst (λ s. AreApart (float_variables (hypotheses_of bytes s)) (hypotheses_of bytes s)) (sym (no_other bytes id other)) tt
   ]
+
+  -- the variables of the mandatory `$f` are the mandatory variables
+  pub variables_at : (id : ℕ) → float_variables (hypotheses_of bytes (stated_at bytes id)) ≡ variables_of (statements_of bytes) (stated_at bytes id).mandatory
+  unfolding variables_of
+  variables_at id = elim (cases_lt id (length (labels_of bytes))) [
+    | inl own ↦
+        let w = all_single_at id own in
+        same_variables (stated_at bytes id).mandatory (subst (λ n. AreBelow n (stated_at bytes id).mandatory) (counted bytes) w.below)
+    | inr other ↦
+        subst (λ (s : Stated). float_variables (hypotheses_of bytes s) ≡ variables_of (statements_of bytes) s.mandatory) (sym (no_other bytes id other)) refl
+  ]

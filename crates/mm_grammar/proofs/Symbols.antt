@@ -4,7 +4,7 @@ use Rattle.std.specs.List.{list_any}
 use Rattle.mm_tokens.specs.Words.{is_bad_label, is_bad_symbol}
 use Rattle.mm_scope.specs.Events.{Event, put, constant, variable, symbols}
 use Rattle.mm_scope.specs.Looks.{look_back}
-use Rattle.mm_scope.specs.Steps.{Answers, State, symbol_checks, take_symbol, is_full, most_symbols, a_label, a_constant, a_variable, a_float, a_symbol, a_distinct, at_text}
+use Rattle.mm_scope.specs.Steps.{most_label, Answers, State, symbol_checks, take_symbol, is_full, most_symbols, a_label, a_constant, a_variable, a_float, a_symbol, a_distinct, at_text}
 use Rattle.mm_scope.specs.declared.mode.Mode.{Mode}
 use Rattle.mm_scope.specs.declared.mode.Mode.TheVariants as mode
 use Rattle.mm_plain.proofs.Fine.{IfFine, fine_if, fine_unless}
@@ -13,7 +13,7 @@ use Rattle.mm_grammar.specs.Phrases.{Noted, Symbol, text_at, IsPlain, IsSymbol}
 use Rattle.mm_grammar.proofs.Known.{active_named, declared_named}
 use Rattle.mm_grammar.proofs.Writing.{one_token, one_text, Stating, listing_more, stating_more, proving_more, declaring_more, Begun, ReadAt}
 
-no_longer : (k : ℕ) → nat_lt 255 k ≡ false → k ≤ 255
+no_longer : (k : ℕ) → nat_lt most_label k ≡ false → k ≤ most_label
 no_longer k h = grind arith
 
 has_room : (k : ℕ) → not (nat_lt k most_symbols) ≡ false → k < most_symbols
@@ -40,7 +40,7 @@ module _ (bytes : List ℕ) (read : List Noted) (s : State (List Event)) (n : No
       let a : Answers = look_back s.context t in
       fine_if (is_bad_label t) _ _ Good (λ _. tt) (λ fit.
       fine_if (a.label || a.known) _ _ Good (λ _. tt) (λ _.
-      fine_if (nat_lt 255 (length t)) _ _ Good (λ _. tt) (λ short. record {
+      fine_if (nat_lt most_label (length t)) _ _ Good (λ _. tt) (λ short. record {
         phrases = g.phrases;
         begun = g.begun ++ (n ∷ []);
         done = one_token bytes (symbols s.context) read g.phrases g.begun g.done n;

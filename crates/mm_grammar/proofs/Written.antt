@@ -1,5 +1,5 @@
 -- The statements of a database are its tokens.
-use Rattle.std.proofs.Common.{◌≡◌, ◌≤◌, ℕ, All, Bool, true, false, List, [], ◌∷◌, ◌++◌, Option, None, Some, length, position, map, flat_map, is_ok, nat_lt, Result, Ok, Err, refl, sym, ap, ◌∙◌, subst, arith, append-nil}
+use Rattle.std.proofs.Common.{◌+◌, ◌≡◌, ◌≤◌, ℕ, All, Bool, true, false, List, [], ◌∷◌, ◌++◌, Option, None, Some, length, position, map, flat_map, is_ok, nat_lt, Result, Ok, Err, refl, sym, ap, ◌∙◌, subst, arith, append-nil}
 use Rattle.std.proofs.lemmas.Bool.{false≢true}
 use Rattle.std.proofs.lemmas.List.{take_all}
 use Rattle.mm_tokens.specs.Bytes.{is_bad}
@@ -56,7 +56,7 @@ within : (k n : ℕ) → nat_lt k n ≡ false → n ≤ k
 within k n h = grind (arith, h)
 
 pub all_judged : (bytes : List ℕ) → is_long bytes ≡ false → judged bytes ≡ bytes
-all_judged bytes h = take_all 134217729 bytes (omega (arith, within most_bytes (length bytes) h))
+all_judged bytes h = take_all (most_bytes + 1) bytes (omega (arith, within most_bytes (length bytes) h))
 
 whole_text : (bytes : List ℕ) → position is_bad (judged bytes) ≡ None → is_long bytes ≡ false → clean (judged bytes) ≡ bytes
 whole_text bytes none short = ap (before_bad (judged bytes)) none ∙ all_judged bytes short

@@ -7,7 +7,7 @@ use Rattle.mm_tokens.specs.declared.pieces.Piece.TheVariants.{Token, Comment, Op
 use Rattle.mm_scope.specs.Events.{Event}
 use Rattle.mm_scope.specs.Events as event
 use Rattle.mm_scope.specs.Reading.{text_of}
-use Rattle.mm_scope.specs.Steps.{most_symbols}
+use Rattle.mm_scope.specs.Steps.{most_label, most_symbols}
 use Rattle.mm_tokens.specs.Words.{is_bad_label}
 
 -- a token outside comments, and the last comment between the token before it and it
@@ -95,7 +95,7 @@ IsPlain bytes n = (slice_index (text_at bytes n) 0 == 36) ≡ false
 -- a label has letters, digits, `-`, `_` and `.` alone, and at most 255
 pub record IsLabel (bytes : List ℕ) (n : Noted) : Type 0 where
   pub fit : is_bad_label (text_at bytes n) ≡ false
-  pub short : length (text_at bytes n) ≤ 255
+  pub short : length (text_at bytes n) ≤ most_label
 
 -- so many symbols at least, and at most 32,768
 abbrev pub AreEnough : ℕ → List Symbol → Type 0

@@ -1,9 +1,10 @@
 //! What holds of the tokens, the declarations and the statements of each database.
 
 ghost use Rattle.std.specs.Prelude.{◌≡◌, ℕ, true, List, [], All, Ok};
-ghost use Rattle.mm_scope.specs.Contents.{is_read, events_of, labels_of, stated_at};
+ghost use Rattle.mm_scope.specs.Contents.{is_read, events_of, labels_of, stated_at, statements_of};
 ghost use Rattle.mm_scope.specs.Databases.{database_of};
 ghost use Rattle.mm_scope.specs.Events.{open_blocks};
+ghost use Rattle.mm_stated.specs.Mandatory.{variables_of as mandatory_variables};
 ghost use Rattle.mm_stack.specs.Running.{applied};
 ghost use Rattle.mm_stack.specs.Laws.{AreApart, Substitutes, hypotheses_of, variables_of};
 ghost use Rattle.mm_grammar.specs.Phrases.{Phrase};
@@ -50,10 +51,12 @@ pub fn labels_are_no_symbols(bytes: &[u8])
 
 /// Each assertion of a database substitutes (Metamath book, section 4.1.4): where a proof's step that names it pushes an
 /// entry, there is one substitution under which the entries popped are its mandatory hypotheses and the entry pushed is
-/// its conclusion. Its `$f` differ in their variables, and none has a variable as a typecode.
+/// its conclusion. Its `$f` differ in their variables, and none has a variable as a typecode; the keys are the mandatory
+/// variables, in the order of their `$f`.
 pub fn assertions_of_databases_substitute(bytes: &[u8])
     ensures apart { (id : ℕ) → AreApart (variables_of (hypotheses_of bytes.now (stated_at bytes.now id))) (hypotheses_of bytes.now (stated_at bytes.now id)) }
-    ensures substitutes { (id k : ℕ) (groups stack next : List (List ℕ)) → applied bytes.now groups (stated_at bytes.now id) stack k ≡ Ok next → Substitutes bytes.now (stated_at bytes.now id) stack next }
+    ensures variables { (id : ℕ) → variables_of (hypotheses_of bytes.now (stated_at bytes.now id)) ≡ mandatory_variables (statements_of bytes.now) (stated_at bytes.now id).mandatory }
+    ensures substitutes { (id k : ℕ) (groups stack next : List (List ℕ)) → applied bytes.now groups (stated_at bytes.now id) stack k ≡ Ok next → Substitutes bytes.now groups (stated_at bytes.now id) stack next }
 {
     assertions_substitute(bytes);
 }

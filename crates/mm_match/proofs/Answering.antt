@@ -1,6 +1,6 @@
 -- From what is settled to matches.
 use Rattle.std.proofs.Common.{◌≡◌, ℕ, zero, suc, ◌-◌, ◌<◌, Bool, true, false, ◌||◌, ◌==◌, List, [], ◌∷◌, map, drop, length, Option, Some, None, refl, sym, ◌∙◌, ap, arith, subst, eqb-true}
-use Rattle.std.specs.Prelude.{is_some, Result, Ok, Err}
+use Rattle.std.specs.Prelude.{Result, Ok, Err}
 use Rattle.std.specs.Result.{IfOk}
 use Rattle.std.specs.declared.alloc.AllocError.{AllocError}
 use Rattle.std.specs.List.{All, list_any, slice_get, position}
@@ -12,50 +12,49 @@ use Rattle.mm_subst.specs.declared.symbol.WSym.{WSym}
 use Rattle.mm_subst.specs.declared.symbol.WSym.TheVariants.{Const, Var, Work}
 use Rattle.mm_subst.specs.Brackets.{brackets_of}
 use Rattle.mm_subst.specs.Statements.{statement_of}
-use Rattle.mm_subst.specs.Substitutions.{Pairs, value_at, applied}
+use Rattle.mm_subst.specs.Substitutions.{Pairs, applied}
 use Rattle.mm_plain.specs.Premises.{variables_for}
-use Rattle.mm_plain.specs.Valid.{Setting, IsKnownSymbol, IsString, is_among}
+use Rattle.mm_plain.specs.Valid.{Setting, IsKnownSymbol, IsString}
 use Rattle.mm_subst.specs.declared.brackets.Brackets.{Brackets}
 use Rattle.mm_match.specs.declared.items.Item.{Item}
 use Rattle.mm_match.specs.declared.items.Item.TheVariants.{Hole}
 use Rattle.mm_match.specs.declared.matched.Matched.{Matched}
 use Rattle.mm_match.specs.declared.matched.Matched.TheVariants.{Missing, Unique, Several}
 use Rattle.mm_match.specs.Items.{Filling, variable_at, item_of}
-use Rattle.mm_match.specs.Keys.{with_new, once_after, once}
 use Rattle.mm_match.specs.Parts.{part, IsValue}
 use Rattle.mm_match.specs.Matches.{IsMatch, IsAnswer, MayBeNamed}
 use Rattle.mm_match.specs.Settled.{Fills, paired, Settles}
-use Rattle.mm_match.proofs.Pairing.{eqb-comm, no_const, no_work, keys-paired, applied-paired, valued, paired-valued, IsProper-valued, All-paired, paired-same, paired-apart}
+use Rattle.mm_match.proofs.Pairing.{keys-paired, applied-paired, valued, paired-valued, IsProper-valued, All-paired, paired-same, paired-apart}
 
 abbrev pub own_items : List ℕ → ℕ → List Item
-own_items bytes id = map (item_of (once (variables_for bytes id))) (statement_of bytes id)
+own_items bytes id = map (item_of (variables_for bytes id)) (statement_of bytes id)
 
-match_from : (bytes : List ℕ) (id : ℕ) (t : List WSym) (rho : Filling) → Fills (brackets_of bytes) (own_items bytes id) t rho → IsMatch bytes id t (paired (once (variables_for bytes id)) rho)
+match_from : (bytes : List ℕ) (id : ℕ) (t : List WSym) (rho : Filling) → Fills (brackets_of bytes) (own_items bytes id) t rho → IsMatch bytes id t (paired (variables_for bytes id) rho)
 match_from bytes id t rho f = record {
-  keys = keys-paired (once (variables_for bytes id)) rho;
-  values = All-paired (IsValue (brackets_of bytes)) (once (variables_for bytes id)) rho (λ k l. f.proper k);
-  equal = applied-paired (once (variables_for bytes id)) rho (statement_of bytes id) ∙ f.fills;
+  keys = keys-paired (variables_for bytes id) rho;
+  values = All-paired (IsValue (brackets_of bytes)) (variables_for bytes id) rho (λ k l. f.proper k);
+  equal = applied-paired (variables_for bytes id) rho (statement_of bytes id) ∙ f.fills;
 }
 
 fills_from : (bytes : List ℕ) (id : ℕ) (t : List WSym) (sigma : Pairs) → IsMatch bytes id t sigma → Fills (brackets_of bytes) (own_items bytes id) t (valued sigma)
 fills_from bytes id t sigma m = record {
   proper = IsProper-valued (brackets_of bytes) sigma m.values;
   fills =
-      sym (applied-paired (once (variables_for bytes id)) (valued sigma) (statement_of bytes id))
-      ∙ ap (λ (s : Pairs). applied s (statement_of bytes id)) (paired-valued (once (variables_for bytes id)) sigma m.keys) ∙ m.equal;
+      sym (applied-paired (variables_for bytes id) (valued sigma) (statement_of bytes id))
+      ∙ ap (λ (s : Pairs). applied s (statement_of bytes id)) (paired-valued (variables_for bytes id) sigma m.keys) ∙ m.equal;
 }
 
-pub answered : (bytes : List ℕ) (id : ℕ) (t : List WSym) (m : Matched) → Settles (brackets_of bytes) (once (variables_for bytes id)) (own_items bytes id) t m → IsAnswer bytes id t m
+pub answered : (bytes : List ℕ) (id : ℕ) (t : List WSym) (m : Matched) → Settles (brackets_of bytes) (variables_for bytes id) (own_items bytes id) t m → IsAnswer bytes id t m
 answered bytes id t Missing h = λ sigma m. h (valued sigma) (fills_from bytes id t sigma m)
 answered bytes id t (Unique sigma) h =
-    let keys = once (variables_for bytes id) in
+    let keys = variables_for bytes id in
     record {
       is_match = subst (IsMatch bytes id t) (sym h.made) (match_from bytes id t h.filling h.fills);
       only = λ tau m.
           sym (paired-valued keys tau m.keys) ∙ paired-same keys (valued tau) h.filling (h.only (valued tau) (fills_from bytes id t tau m)) ∙ sym h.made;
     }
 answered bytes id t Several h =
-    let keys = once (variables_for bytes id) in
+    let keys = variables_for bytes id in
     record {
       one = paired keys h.one;
       other = paired keys h.other;
@@ -63,56 +62,6 @@ answered bytes id t Several h =
       second = match_from bytes id t h.other h.second;
       differ = λ e. h.differ (paired-apart keys h.one h.other h.key h.within e);
     }
-
--- the keys are the mandatory variables
-or_true : (b : Bool) → (b || true) ≡ true
-or_true true = refl
-or_true false = refl
-
-or_assoc : (p q r : Bool) → ((p || q) || r) ≡ (p || (q || r))
-or_assoc true q r = refl
-or_assoc false q r = refl
-
-or_false : (b : Bool) → (b || false) ≡ b
-or_false true = refl
-or_false false = refl
-
-known_already : (n k : ℕ) (seen : List ℕ) (rest : Bool) → list_any (λ m. k == m) seen ≡ true → (b : Bool) → n == k ≡ b
-    → (list_any (λ m. n == m) seen || rest) ≡ (list_any (λ m. n == m) seen || (b || rest))
-known_already n k seen rest h true e =
-    let z : n ≡ k = eqb-true n k e in
-    let s : list_any (λ m. n == m) seen ≡ true = ap (λ (x : ℕ). list_any (λ m. x == m) seen) z ∙ h in
-    ap (λ (b : Bool). b || rest) s ∙ sym (ap (λ (b : Bool). b || (true || rest)) s)
-known_already n k seen rest h false e = refl
-
-any_new : (n k : ℕ) (seen : List ℕ) (rest : Bool) (b : Bool) → list_any (λ m. k == m) seen ≡ b
-    → (list_any (λ m. n == m) (with_new seen k) || rest) ≡ (list_any (λ m. n == m) seen || (n == k || rest))
-any_new n k seen rest true e = rw e (known_already n k seen rest e (n == k) refl)
-any_new n k seen rest false e =
-    rw e (ap (λ (b : Bool). b || rest) (list_any-append (λ m. n == m) seen (k ∷ []) ∙ ap (λ (b : Bool). list_any (λ m. n == m) seen || b) (or_false (n == k)))
-    ∙ or_assoc (list_any (λ m. n == m) seen) (n == k) rest)
-
-any_after : (n : ℕ) (seen ns : List ℕ) → list_any (λ m. n == m) (once_after seen ns) ≡ (list_any (λ m. n == m) seen || list_any (λ m. n == m) ns)
-any_after n seen [] = sym (or_false (list_any (λ m. n == m) seen))
-any_after n seen (k ∷ ns) = any_after n (with_new seen k) ns ∙ any_new n k seen (list_any (λ m. n == m) ns) (list_any (λ m. k == m) seen) refl
-
-among_once : (ns : List ℕ) (x : WSym) → is_among (once ns) x ≡ is_among ns x
-among_once ns (Const n) = refl
-among_once ns (Var n) = any_after n [] ns
-among_once ns (Work n) = refl
-
-is_key : (ks : List ℕ) (n : ℕ) (rho : Filling) → is_some (value_at (paired ks rho) (Var n)) ≡ list_any (λ m. n == m) ks
-is_key [] n rho = refl
-is_key (k ∷ ks) n rho = at (n == k) refl (is_key ks n (λ j. rho (suc j))) where
-  at : (b : Bool) → n == k ≡ b → is_some (value_at (paired ks (λ j. rho (suc j))) (Var n)) ≡ list_any (λ m. n == m) ks
-      → is_some (value_at (paired (k ∷ ks) rho) (Var n)) ≡ (n == k || list_any (λ m. n == m) ks)
-  at true e ih = let f : k == n ≡ true = eqb-comm k n ∙ e in rw (e, f) refl
-  at false e ih = let f : k == n ≡ false = eqb-comm k n ∙ e in rw (e, f) ih
-
-keys_are : (ks : List ℕ) (rho : Filling) (x : WSym) → is_some (value_at (paired ks rho) x) ≡ is_among ks x
-keys_are ks rho (Const n) = ap (λ (o : Option (List WSym)). is_some o) (no_const ks n rho)
-keys_are ks rho (Work n) = ap (λ (o : Option (List WSym)). is_some o) (no_work ks n rho)
-keys_are ks rho (Var n) = is_key ks n rho
 
 -- a part of a string is a string
 pub IsString-part : (c : Setting) (t : List WSym) (i j : ℕ) → IsString c t → IsString c (part t i j)
@@ -123,14 +72,14 @@ IsString-part c t i j s =
       short = omega (arith, length-take (j - i) (drop i t), length-drop i t);
     }
 
-pub may_be_named : (bytes : List ℕ) (id : ℕ) (t : List WSym) (m : Matched) → Settles (brackets_of bytes) (once (variables_for bytes id)) (own_items bytes id) t m → MayBeNamed bytes id t m
+pub may_be_named : (bytes : List ℕ) (id : ℕ) (t : List WSym) (m : Matched) → Settles (brackets_of bytes) (variables_for bytes id) (own_items bytes id) t m → MayBeNamed bytes id t m
 may_be_named bytes id t Missing h = tt
 may_be_named bytes id t (Unique sigma) h = λ at next stands string.
-    let keys = once (variables_for bytes id) in
+    let keys = variables_for bytes id in
     let c : Setting = record { bytes = bytes; at = at; next = next } in
     record {
       stands = stands;
-      keys = λ x. ap (λ (s : Pairs). is_some (value_at s x)) h.made ∙ keys_are keys h.filling x ∙ among_once (variables_for bytes id) x;
+      keys = ap (λ (s : Pairs). map (λ (p : WSym × List WSym). p.0) s) h.made ∙ keys-paired keys h.filling;
       values = subst (λ (s : Pairs). All (λ p. IsString c p.1) s) (sym h.made)
           (All-paired (IsString c) keys h.filling (λ k l. let p = h.parts k l in subst (IsString c) (sym p.1) (IsString-part c t p.0.from p.0.to string)));
       source = subst (IsString c) (sym (ap (λ (s : Pairs). applied s (statement_of bytes id)) h.made ∙ applied-paired keys h.filling (statement_of bytes id) ∙ h.fills.fills)) string;
@@ -163,17 +112,17 @@ AreAmong-items ks s items n place k e l h =
 -- what was settled is settled for the statement
 pub record AreOwnParts (bytes : List ℕ) (id : ℕ) (t : List WSym) (bs : Brackets) (keys : List ℕ) (items : List Item) (s : List WSym) : Type 0 where
   pub brackets : bs ≡ brackets_of bytes
-  pub keys_are : keys ≡ once (variables_for bytes id)
+  pub keys_are : keys ≡ variables_for bytes id
   pub items_are : items ≡ own_items bytes id
   pub target : s ≡ t
 
 settled_own : (bytes : List ℕ) (id : ℕ) (t : List WSym) (bs : Brackets) (keys : List ℕ) (items : List Item) (s : List WSym) (m : Matched) → AreOwnParts bytes id t bs keys items s
-    → Settles bs keys items s m → Settles (brackets_of bytes) (once (variables_for bytes id)) (own_items bytes id) t m
+    → Settles bs keys items s m → Settles (brackets_of bytes) (variables_for bytes id) (own_items bytes id) t m
 settled_own bytes id t bs keys items s m own h =
     let a = subst (λ (z : Brackets). Settles z keys items s m) own.brackets h in
     let b = subst (λ (z : List ℕ). Settles (brackets_of bytes) z items s m) own.keys_are a in
-    let d = subst (λ (z : List Item). Settles (brackets_of bytes) (once (variables_for bytes id)) z s m) own.items_are b in
-    subst (λ (z : List WSym). Settles (brackets_of bytes) (once (variables_for bytes id)) (own_items bytes id) z m) own.target d
+    let d = subst (λ (z : List Item). Settles (brackets_of bytes) (variables_for bytes id) z s m) own.items_are b in
+    subst (λ (z : List WSym). Settles (brackets_of bytes) (variables_for bytes id) (own_items bytes id) z m) own.target d
 
 pub answered_if : (bytes : List ℕ) (id : ℕ) (t : List WSym) (bs : Brackets) (keys : List ℕ) (items : List Item) (s : List WSym) (r : Result Matched AllocError) → AreOwnParts bytes id t bs keys items s
     → IfOk r (λ m. Settles bs keys items s m) → IfOk r (λ m. IsAnswer bytes id t m) × IfOk r (λ m. MayBeNamed bytes id t m)

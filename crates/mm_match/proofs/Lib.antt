@@ -1,5 +1,4 @@
 pub mod Walks
-pub mod Once
 pub mod Parts
 pub mod Endings
 pub mod Making
@@ -9,4 +8,5 @@ pub mod Tabling
 pub mod Walking
 pub mod Pairing
 pub mod Settling
+pub mod Occurring
 pub mod Answering

@@ -1,6 +1,6 @@
 -- What rests of a conclusion can make.
 use Rattle.std.proofs.Common.{◌≡◌, ℕ, suc, ◌+◌, ◌≤◌, ◌<◌, ◌≢◌, Bool, true, false, ◌&&◌, ◌||◌, ◌⊎◌, inl, inr, List, [], ◌∷◌, ◌++◌, drop, set, length, get_or, replicate, Option, Some, None, refl, sym, ◌∙◌, ap, arith, subst}
-use Rattle.std.proofs.lemmas.Bool.{cases_lt, cases_eq}
+use Rattle.std.proofs.lemmas.Bool.{cases_lt, cases_eq, or_parts}
 use Rattle.std.proofs.lemmas.List.{length-append, length-drop, length-set, length-replicate, drop_more, get_or-set_same, get_or-set_other, get_or-replicate, drop_at, drop-drop}
 use Rattle.mm_subst.specs.declared.symbol.WSym.{WSym}
 use Rattle.mm_subst.specs.declared.brackets.Brackets.{Brackets}
@@ -79,11 +79,6 @@ cannot_fixed_end bs xs t x i h m =
     let n : length (drop i t) ≡ suc (length m.0) = ap length m.1 in
     omega (arith, length-drop i t)
 
-pub either_false : (p q : Bool) → (p || q) ≡ false → (p ≡ false) × (q ≡ false)
-either_false false false h = (refl, refl)
-either_false false true h = cc
-either_false true q h = cc
-
 -- a variable
 pub cannot_hole : (bs : Brackets) (xs : List Item) (t : List WSym) (ends : Option ℕ) (next row : List Bool) (k i : ℕ) → i ≤ length t
     → IsEnd bs t i ends → IsRow bs xs t next → IsRow bs (Hole k ∷ xs) t row → hole_says ends next row ≡ false → CanMake bs (Hole k ∷ xs) (drop i t) → ⊥
@@ -92,7 +87,7 @@ cannot_hole bs xs t None next row k i h end n r refused m =
     false-true _ (end (i + length m.0) b.after b.within) b.balanced
 cannot_hole bs xs t (Some to) next row k i h end n r refused m =
     let b = begins bs t m.0 m.1 i h m.3 m.2 in
-    let two = either_false (get_or next to true) (get_or row to true) refused in
+    let two = or_parts (get_or next to true) (get_or row to true) refused in
     let e = i + length m.0 in
     elim (ends_by bs t i to e end b.after b.balanced) [
       | inl here ↦ n.cells to end.within two.0 (subst (λ (q : List WSym). CanMake bs xs q) (b.rest ∙ ap (λ (z : ℕ). drop z t) (sym here)) m.4)

@@ -2,21 +2,19 @@
 use Rattle.std.proofs.Common.{◌≡◌, ℕ, zero, suc, ◌+◌, ◌<◌, Bool, true, false, ◌==◌, inl, inr, List, [], ◌∷◌, ◌++◌, map, take, length, get_or, Option, Some, None, refl, sym, ◌∙◌, ap, arith}
 use Rattle.std.specs.List.{All, AllByRecursion as ByRecursion, list_any, position, position_from}
 use Rattle.std.specs.Option.{option_map}
-use Rattle.std.proofs.lemmas.Bool.{cases_lt}
-use Rattle.std.proofs.lemmas.List.{get_or_append_left, get_or_push, take-append-le, take_at, length_push, length-take-le, take_more}
+use Rattle.std.proofs.lemmas.List.{length-take-le, take_more}
 use Rattle.std.proofs.lemmas.List.Elements.{All-from_recursion, recursion_from_All}
 use Rattle.std.proofs.lemmas.Iterator.Adapters.{position_from-zero}
+use Rattle.std.proofs.lemmas.Bool.{or_parts}
 use Rattle.mm_subst.specs.declared.symbol.WSym.{WSym}
 use Rattle.mm_subst.specs.declared.symbol.WSym.TheVariants.{Const, Var, Work}
 use Rattle.mm_subst.specs.declared.brackets.Brackets.{Brackets}
 use Rattle.mm_subst.specs.Substitutions.{Pairs, value_at, or_itself, value_of, applied}
 use Rattle.mm_subst.proofs.Replaced.{applied-nil, applied-cons}
 use Rattle.mm_match.specs.Items.{Filling, variable_at, item_of, piece, filled}
-use Rattle.mm_match.specs.Keys.{with_new, once_after, once}
 use Rattle.mm_match.specs.Parts.{IsValue}
 use Rattle.mm_match.specs.Fillings.{IsProper}
-use Rattle.mm_match.specs.Settled.{AreDistinct, paired, blank}
-use Rattle.mm_match.proofs.Making.{either_false}
+use Rattle.mm_match.specs.Settled.{paired, blank}
 use Rattle.mm_match.proofs.Solving.{IsValue-work}
 
 pub eqb-comm : (m n : ℕ) → m == n ≡ n == m
@@ -34,7 +32,7 @@ paired-push (k ∷ ks) n rho = ap (λ (xs : Pairs). (Var k, rho 0) ∷ xs) (pair
 pub value_at-fresh : (ks : List ℕ) (n : ℕ) (rho : Filling) → list_any (λ m. n == m) ks ≡ false → value_at (paired ks rho) (Var n) ≡ None
 value_at-fresh [] n rho h = refl
 value_at-fresh (k ∷ ks) n rho h =
-    let two = either_false (n == k) (list_any (λ m. n == m) ks) h in
+    let two = or_parts (n == k) (list_any (λ m. n == m) ks) h in
     let e : k == n ≡ false = eqb-comm k n ∙ two.0 in
     rw e (value_at-fresh ks n (λ j. rho (suc j)) two.1)
 
@@ -118,29 +116,6 @@ valued-paired (n ∷ ns) rho (suc k) l = valued-paired ns (λ j. rho (suc j)) k 
 
 pub paired-apart : (ks : List ℕ) (rho tau : Filling) (k : ℕ) → k < length ks → paired ks rho ≡ paired ks tau → rho k ≡ tau k
 paired-apart ks rho tau k l e = sym (valued-paired ks rho k l) ∙ ap (λ (s : Pairs). valued s k) e ∙ valued-paired ks tau k l
-
--- lists without later repetitions
-distinct_push : (ns : List ℕ) (n : ℕ) → AreDistinct ns → list_any (λ m. n == m) ns ≡ false → AreDistinct (ns ++ n ∷ [])
-distinct_push ns n h fresh k l = elim (cases_lt k (length ns)) [
-  | inl before ↦
-      ap (λ (x : ℕ). list_any (λ m. x == m) (take k (ns ++ n ∷ []))) (get_or_append_left ns (n ∷ []) 0 k before)
-      ∙ ap (list_any (λ m. get_or ns k 0 == m)) (take-append-le k ns (n ∷ []) (omega arith)) ∙ h k before
-  | inr here ↦
-      let z : length ns ≡ k = omega (arith, length_push ns n) in
-      ap (λ (x : ℕ). list_any (λ m. x == m) (take k (ns ++ n ∷ []))) (get_or_push ns n 0 k z)
-      ∙ ap (list_any (λ m. n == m)) (take_at ns (n ∷ []) k z) ∙ fresh
-]
-
-distinct_new : (seen : List ℕ) (n : ℕ) → AreDistinct seen → (b : Bool) → list_any (λ m. n == m) seen ≡ b → AreDistinct (with_new seen n)
-distinct_new seen n h true e = rw e h
-distinct_new seen n h false e = rw e (distinct_push seen n h e)
-
-distinct_after : (seen ns : List ℕ) → AreDistinct seen → AreDistinct (once_after seen ns)
-distinct_after seen [] h = h
-distinct_after seen (n ∷ ns) h = distinct_after (with_new seen n) ns (distinct_new seen n h (list_any (λ m. n == m) seen) refl)
-
-pub AreDistinct-once : (ns : List ℕ) → AreDistinct (once ns)
-AreDistinct-once ns = distinct_after [] ns (λ k l. absurd (omega arith))
 
 -- one key more
 pub paired-more : (ks : List ℕ) (k : ℕ) (rho : Filling) → k < length ks → paired (take (k + 1) ks) rho ≡ paired (take k ks) rho ++ (Var (get_or ks k 0), rho k) ∷ []

@@ -51,14 +51,14 @@ settle_one bs keys items t v sigma h made = record {
   parts = λ k l. let b = made.1 k l in (b.0, Agrees-filler blank t v k b.0 b.1);
 }
 
-blanks : List WSym
+pub blanks : List WSym
 blanks = Work 0 ∷ Work 0 ∷ []
 
-IsValue-blanks : (bs : Brackets) → IsValue bs blanks
+pub IsValue-blanks : (bs : Brackets) → IsValue bs blanks
 unfolding blanks
 IsValue-blanks bs = let b = (IsValue-work bs 0).balanced in record { some = omega arith; balanced = balanced-append bs blank blank b ∙ b }
 
-blank-apart : blank ≡ blanks → ⊥
+pub blank-apart : blank ≡ blanks → ⊥
 unfolding blanks
 blank-apart e = cc
 

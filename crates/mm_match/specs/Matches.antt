@@ -9,13 +9,12 @@ use Rattle.mm_plain.specs.Premises.{variables_for, may_stand}
 use Rattle.mm_plain.specs.Valid.{IsString, Names}
 use Rattle.mm_match.specs.declared.matched.Matched.{Matched}
 use Rattle.mm_match.specs.declared.matched.Matched.TheVariants.{Missing, Unique, Several}
-use Rattle.mm_match.specs.Keys.{once}
 use Rattle.mm_match.specs.Parts.{IsValue}
 
--- The keys are the mandatory variables of the statement, each once, in order; the values are balanced and not empty; and
+-- The keys are the mandatory variables of the statement, in order; the values are balanced and not empty; and
 -- they make the string of the statement.
 pub record IsMatch (bytes : List ℕ) (id : ℕ) (t : List WSym) (sigma : Pairs) : Type 0 where
-  pub keys : map (λ p. p.0) sigma ≡ map Var (once (variables_for bytes id))
+  pub keys : map (λ p. p.0) sigma ≡ map Var (variables_for bytes id)
   pub values : All (λ p. IsValue (brackets_of bytes) p.1) sigma
   pub equal : applied sigma (statement_of bytes id) ≡ t
 

@@ -1,5 +1,5 @@
 -- What a search settles.
-use Rattle.std.specs.Prelude.{◌≡◌, ℕ, suc, ◌<◌, ◌==◌, false, List, [], ◌∷◌, take, length, slice_get, slice_index, Option, None, Some}
+use Rattle.std.specs.Prelude.{◌≡◌, ℕ, suc, ◌<◌, ◌==◌, Bool, false, List, [], ◌∷◌, take, length, slice_get, slice_index, Option, None, Some}
 use Rattle.std.specs.List.{list_any}
 use Rattle.mm_subst.specs.declared.symbol.WSym.{WSym}
 use Rattle.mm_subst.specs.declared.symbol.WSym.TheVariants.{Var, Work}
@@ -14,9 +14,13 @@ use Rattle.mm_match.specs.Parts.{part}
 use Rattle.mm_match.specs.Fillings.{IsProper}
 use Rattle.mm_match.specs.Found.{Differ}
 
--- no number comes twice
-abbrev pub AreDistinct : List ℕ → Type 0
-AreDistinct ns = (k : ℕ) → k < length ns → list_any (λ m. slice_index ns k == m) (take k ns) ≡ false
+-- whether a number stands in the list before its place too
+abbrev pub is_repeated : List ℕ → ℕ → Bool
+is_repeated ns k = list_any (λ m. slice_index ns k == m) (take k ns)
+
+-- no key that has a part is the same as an earlier one
+abbrev pub AreFirst : List ℕ → List (Option Part) → Type 0
+AreFirst keys v = (k : ℕ) (p : Part) → slice_get v k ≡ Some (Some p) → is_repeated keys k ≡ false
 
 -- a filling makes the whole target
 pub record Fills (bs : Brackets) (items : List Item) (t : List WSym) (rho : Filling) : Type 0 where

@@ -1,11 +1,10 @@
 //! The keys of a match.
 
-ghost use Rattle.std.specs.Prelude.{◌≡◌, ◌==◌, ◌<◌, IfOk, length, All};
-ghost use Rattle.std.specs.List.{list_any};
+ghost use Rattle.std.specs.Prelude.{◌≡◌, ◌<◌, IfOk, length, All};
 ghost use Rattle.mm_scope.specs.Contents.{labels_of, stated_at};
 ghost use Rattle.mm_stated.specs.Stated.{variable_of};
 ghost use Rattle.mm_plain.specs.Premises.{variables_for};
-ghost use Rattle.mm_match.specs.Keys.{once, variables_among};
+ghost use Rattle.mm_match.specs.Keys.{variables_among};
 
 use mm_scope::{Database, Kind, StmtId};
 use std::alloc::{AllocError, Global};
@@ -35,9 +34,9 @@ fn variables_among(alloc: Global, db: &Database, ids: &[u32]) -> Result<Vec<u32>
     Ok(variables)
 }
 
-/// The mandatory variables of a statement.
+/// The mandatory variables of a statement, in order.
 #[tactic(auto, unfolding(mm_plain::specs::Premises::variables_for, mm_stated::specs::Mandatory::variables_of))]
-fn variables_for(alloc: Global, db: &Database, id: StmtId) -> Result<Vec<u32>, AllocError>
+pub fn variables_for(alloc: Global, db: &Database, id: StmtId) -> Result<Vec<u32>, AllocError>
     requires { id.0 < length (labels_of db.now) }
     ensures { IfOk result (λ v. v.items ≡ variables_for db.now id.0) }
 {
@@ -47,32 +46,4 @@ fn variables_for(alloc: Global, db: &Database, id: StmtId) -> Result<Vec<u32>, A
             variables_among(alloc, db, db.frame(id).mandatory.as_slice())
         }
     }
-}
-
-fn is_among(numbers: &[u32], number: u32) -> bool
-    ensures { result ≡ list_any (λ n. number == n) numbers.now }
-{
-    numbers.iter().any(|n| number == *n)
-}
-
-/// The numbers without later repetitions.
-fn once(alloc: Global, numbers: &[u32]) -> Result<Vec<u32>, AllocError>
-    ensures { IfOk result (λ v. v.items ≡ once numbers.now) }
-{
-    let mut seen = Vec::new(alloc);
-    for number in numbers {
-        if !is_among(seen.as_slice(), *number) {
-            seen.push(*number)?;
-        }
-    }
-    Ok(seen)
-}
-
-/// The mandatory variables of a statement, each once.
-pub fn keys_for(alloc: Global, db: &Database, id: StmtId) -> Result<Vec<u32>, AllocError>
-    requires { id.0 < length (labels_of db.now) }
-    ensures { IfOk result (λ v. v.items ≡ once (variables_for db.now id.0)) }
-{
-    let variables = variables_for(alloc, db, id)?;
-    once(alloc, variables.as_slice())
 }

@@ -6,12 +6,12 @@ ghost use Rattle.mm_match.specs.Items.{item_of};
 ghost use Rattle.mm_match.specs.Rows.{IsTable};
 ghost use Rattle.mm_match.specs.Fillings.{AreOwn};
 ghost use Rattle.mm_match.specs.Found.{AreAmong, Tells};
-ghost use Rattle.mm_match.specs.Settled.{AreBound, AreDistinct, Fills, Settles, blank, filler, paired};
+ghost use Rattle.mm_match.specs.Settled.{AreBound, AreFirst, Fills, Settles, blank, filler, paired};
 ghost use Rattle.mm_match.specs.Matches.{IsAnswer, MayBeNamed};
 
 use crate::found::Found;
 use crate::items::items_of;
-use crate::keys::keys_for;
+use crate::keys::variables_for;
 use crate::search::{part_of, search};
 use crate::table::Table;
 use crate::values::Values;
@@ -44,7 +44,7 @@ fn substitution(
     target: &[WSym],
     values: &Values,
 ) -> Result<Option<Subst>, Memory>
-    requires distinct { AreDistinct keys.now }
+    requires first { AreFirst keys.now values.now }
     requires count { length values.now ≡ length keys.now }
     requires own { (bs : Brackets) × AreOwn bs target.now values.now }
     ensures { IfOk result (λ r. MatchOption r ((k : ℕ) × (k < length keys.now) × (slice_get values.now k ≡ Some None)) (λ s. (s ≡ paired keys.now (filler blank target.now values.now)) × AreBound (length keys.now) values.now)) }
@@ -68,7 +68,7 @@ fn settled(
     target: &[WSym],
     found: &Found,
 ) -> Result<Matched, Memory>
-    requires distinct { AreDistinct keys.now }
+    requires items { (s : List WSym) × (table.now.items.items ≡ map (item_of keys.now) s) }
     requires told { Tells table.now.brackets target.now (length keys.now) (Fills table.now.brackets table.now.items.items target.now) found.now }
     ensures { IfOk result (λ m. Settles table.now.brackets keys.now table.now.items.items target.now m) }
 {
@@ -93,7 +93,7 @@ pub fn matching(alloc: Global, db: &Database, id: StmtId, target: &WStr) -> Resu
     // With the one match a step may name the statement.
     ensures named { IfOk result (λ m. MayBeNamed db.now id.0 target.now m) }
 {
-    let keys = keys_for(alloc, db, id)?;
+    let keys = variables_for(alloc, db, id)?;
     let conclusion = statement(alloc, db, id)?;
     let items = items_of(alloc, keys.as_slice(), &conclusion)?;
     let table = Table::new(alloc, Brackets::of(db), items, target.symbols())?;

@@ -11,7 +11,7 @@ use Rattle.mm_scope.specs.Contents.{events_of}
 use Rattle.mm_scope.specs.Events.{Event, put, constant, variable, float, essential, asserted, theorem, distinct, opened, closed, symbols, labels}
 use Rattle.mm_scope.specs.Looks.{look_back, known_as}
 use Rattle.mm_scope.specs.Reading.{text_of, step}
-use Rattle.mm_scope.specs.Steps.{Answers, State, symbol_checks, take_symbol, is_full, a_label, a_constant, a_variable, a_float, a_symbol, a_distinct, at_text, at_end, at_proof, unlabelled, at_constants, labelled, at_open, at_close, step_by}
+use Rattle.mm_scope.specs.Steps.{most_label, Answers, State, symbol_checks, take_symbol, is_full, a_label, a_constant, a_variable, a_float, a_symbol, a_distinct, at_text, at_end, at_proof, unlabelled, at_constants, labelled, at_open, at_close, step_by}
 use Rattle.mm_scope.specs.declared.mode.Mode.{Mode}
 use Rattle.mm_scope.specs.declared.mode.Mode.TheVariants as mode
 use Rattle.mm_plain.proofs.Fine.{IfFine, fine_if, fine_unless, of_each}
@@ -52,7 +52,7 @@ neither : (a b : Bool) → (a || b) ≡ false → (a ≡ false) × (b ≡ false)
 neither true b h = absurd (true≢false h)
 neither false b h = (refl, h)
 
-no_longer : (n : ℕ) → nat_lt 255 n ≡ false → n ≤ 255
+no_longer : (n : ℕ) → nat_lt most_label n ≡ false → n ≤ most_label
 no_longer n h = grind arith
 
 a_label_good : (s : State (List Event)) (t : List ℕ) (p : ℕ) → 0 < length t → AreLabelled s.context → IfFine (a_label s (look_back s.context t) t p) Good
@@ -61,7 +61,7 @@ a_label_good s t p some all =
     let a : Answers = look_back s.context t in
     fine_if (is_bad_label t) _ _ Good (λ _. tt) (λ fit.
     fine_if (a.label || a.known) _ _ Good (λ _. tt) (λ off.
-    fine_if (nat_lt 255 (length t)) _ _ Good (λ _. tt) (λ short.
+    fine_if (nat_lt most_label (length t)) _ _ Good (λ _. tt) (λ short.
     record { all = all; fresh = record { fit = fit; some = some; short = no_longer (length t) short; fresh = sym (label_as s.context t (position (bytes_eq t) (symbols s.context))) ∙ (neither a.label a.known off).0 } })))
 
 a_symbol_good : (s : State (List Event)) (a : Answers) (p : ℕ) → Good s → IfFine (a_symbol s a p) Good

@@ -6,6 +6,7 @@ pub mod Kept
 pub mod Read
 pub mod Walks
 pub mod Owned
+pub mod Keys
 pub mod Fine
 mod Begun
 mod Reading

@@ -7,6 +7,7 @@ use Rattle.std.proofs.lemmas.List.Elements.{All-push, All-nil}
 use Rattle.std.specs.List.{list_any, position_or_len}
 use Rattle.std.specs.Str.{bytes_eq}
 use Rattle.mm_tokens.specs.Words.{is_bad_label}
+use Rattle.mm_scope.specs.Steps.{most_label}
 
 -- each text is the first like it
 abbrev pub AreFirst : List (List ℕ) → Type 0
@@ -16,14 +17,14 @@ AreFirst ts = (k : ℕ) → k < length ts → position_or_len (bytes_eq (get_or 
 pub record AreLabels (ts : List (List ℕ)) : Type 0 where
   pub fit : All (λ t. is_bad_label t ≡ false) ts
   pub some : All (λ t. 0 < length t) ts
-  pub short : All (λ t. length t ≤ 255) ts
+  pub short : All (λ t. length t ≤ most_label) ts
   pub first : AreFirst ts
 
 -- and so is one more
 pub record IsNew (ts : List (List ℕ)) (t : List ℕ) : Type 0 where
   pub fit : is_bad_label t ≡ false
   pub some : 0 < length t
-  pub short : length t ≤ 255
+  pub short : length t ≤ most_label
   pub fresh : list_any (bytes_eq t) ts ≡ false
 
 pub no_labels : AreLabels []
@@ -76,6 +77,6 @@ pub one_label : (ts : List (List ℕ)) (t : List ℕ) → AreLabels ts → IsNew
 one_label ts t all new = record {
   fit = All-push (λ u. is_bad_label u ≡ false) ts t all.fit new.fit;
   some = All-push (λ u. 0 < length u) ts t all.some new.some;
-  short = All-push (λ u. length u ≤ 255) ts t all.short new.short;
+  short = All-push (λ u. length u ≤ most_label) ts t all.short new.short;
   first = first_pushed ts t all.first new.fresh;
 }

@@ -16,7 +16,7 @@ use Rattle.mm_scope.specs.Looks.{look_back, known_as, constants}
 use Rattle.mm_scope.specs.Reading.{text_of, step}
 use Rattle.mm_stated.specs.Mandatory.{an_assertion}
 use Rattle.mm_stated.specs.Stated.{Stated, a_hypothesis}
-use Rattle.mm_scope.specs.Steps.{Answers, State, symbol_checks, take_symbol, is_full, most_symbols, a_label, a_constant, a_variable, a_float, a_symbol, a_distinct, at_text, at_end, at_proof, unlabelled, at_constants, labelled, at_open, at_close, step_by}
+use Rattle.mm_scope.specs.Steps.{most_label, Answers, State, symbol_checks, take_symbol, is_full, most_symbols, a_label, a_constant, a_variable, a_float, a_symbol, a_distinct, at_text, at_end, at_proof, unlabelled, at_constants, labelled, at_open, at_close, step_by}
 use Rattle.mm_scope.specs.declared.mode.Mode.{Mode}
 use Rattle.mm_scope.specs.declared.mode.Mode.TheVariants as mode
 use Rattle.mm_stated.specs.declared.statement.Kind.{Kind}
@@ -178,7 +178,7 @@ a_label_formed s t p all =
     let a : Answers = look_back s.context t in
     fine_if (is_bad_label t) _ _ Formed (λ _. tt) (λ _.
     fine_if (a.label || a.known) _ _ Formed (λ _. tt) (λ _.
-    fine_if (nat_lt 255 (length t)) _ _ Formed (λ _. tt) (λ _.
+    fine_if (nat_lt most_label (length t)) _ _ Formed (λ _. tt) (λ _.
     record { all = all; fits = tt })))
 
 a_constant_formed : (s : State (List Event)) → s.mode ≡ mode.Constants → (t : List ℕ) (p : ℕ) → AreWhole s.context → IfFine (a_constant put s (look_back s.context t) t p) Formed

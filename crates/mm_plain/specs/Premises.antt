@@ -7,7 +7,13 @@ use Rattle.mm_stated.specs.Stated.{is_hypothesis}
 use Rattle.mm_subst.specs.Statements.{statement_of}
 use Rattle.mm_subst.specs.declared.symbol.WSym.{WSym}
 
--- the strings of the mandatory hypotheses of an assertion, in order; a hypothesis has none
+-- the ids of the mandatory hypotheses of an assertion, in order; a hypothesis has none
+unfoldable pub premise_ids : List ℕ → ℕ → List ℕ
+premise_ids bytes id =
+    if is_hypothesis (stated_at bytes id).kind then []
+    else (stated_at bytes id).mandatory
+
+-- and their strings
 unfoldable pub premises_of : List ℕ → ℕ → List (List WSym)
 premises_of bytes id =
     if is_hypothesis (stated_at bytes id).kind then []

@@ -1,11 +1,10 @@
 -- When a proof is valid for a theorem of a database.
-use Rattle.std.specs.Prelude.{◌≡◌, ℕ, ◌≤◌, ◌<◌, Bool, true, false, ◌==◌, List, map, length, All, is_some}
-use Rattle.std.specs.List.{list_any}
+use Rattle.std.specs.Prelude.{◌≡◌, ℕ, ◌+◌, ◌≤◌, ◌<◌, true, false, List, map, length, All}
 use Rattle.mm_scope.specs.Contents.{symbols_of, is_variable_of}
 use Rattle.mm_subst.specs.declared.symbol.WSym.{WSym}
 use Rattle.mm_subst.specs.declared.symbol.WSym.TheVariants.{Const, Var, Work}
 use Rattle.mm_subst.specs.Applied.{most_symbols}
-use Rattle.mm_subst.specs.Substitutions.{Pairs, value_at, applied}
+use Rattle.mm_subst.specs.Substitutions.{Pairs, applied}
 use Rattle.mm_plain.specs.declared.plain.Plain.{Plain}
 use Rattle.mm_plain.specs.declared.plain.Plain.TheOpen.{Plain-F}
 use Rattle.mm_plain.specs.declared.plain.Plain.TheOpen as P
@@ -38,15 +37,9 @@ pub record IsString (c : Setting) (s : List WSym) : Type 0 where
   pub symbols : All (IsKnownSymbol c) s
   pub short : length s ≤ most_symbols
 
--- whether a symbol is a variable among these
-abbrev pub is_among : List ℕ → WSym → Bool
-is_among ns (Const m) = false
-is_among ns (Var m) = list_any (λ n. m == n) ns
-is_among ns (Work m) = false
-
--- the keys are exactly the mandatory variables
+-- the keys are the mandatory variables, in the order of their `$f`
 abbrev pub HasKeys : Setting → ℕ → Pairs → Type 0
-HasKeys c id sigma = (x : WSym) → is_some (value_at sigma x) ≡ is_among (variables_for c.bytes id) x
+HasKeys c id sigma = map (λ p. p.0) sigma ≡ map Var (variables_for c.bytes id)
 
 -- a step may name a statement with a substitution: its values, and the statement under it, are strings
 pub record Names (c : Setting) (id : ℕ) (sigma : Pairs) : Type 0 where
@@ -73,9 +66,9 @@ IsGood c x = good_layer c (V.out-Plain x)
 unfoldable pub IsSound : Setting → Plain → Type 0
 IsSound c x = Each (IsGood c) (steps_of x)
 
--- the greatest number of the next work variable, of steps and of levels
-abbrev pub most_next : ℕ
-most_next = 4000000001
+-- the greatest numbers of work variables, of steps and of levels
+abbrev pub most_works : ℕ
+most_works = 4000000000
 
 abbrev pub most_steps : ℕ
 most_steps = 1000000
@@ -87,7 +80,7 @@ most_levels = 2000
 pub record IsValid (bytes : List ℕ) (at : ℕ) (goal : List WSym) (p : Proof) : Type 0 where
   pub goal_is : target_of p.plain ≡ goal
   pub steps : IsSound (setting_of bytes at p) p.plain
-  pub counter : (1 ≤ p.next) × (p.next ≤ most_next)
+  pub counter : (1 ≤ p.next) × (p.next ≤ most_works + 1)
   pub few : size_of p.plain ≤ most_steps
   pub low : height_of p.plain ≤ most_levels
 

@@ -12,7 +12,7 @@ use Rattle.mm_plain.specs.declared.plain.Plain.TheOpen as P
 use Rattle.mm_plain.specs.declared.plain.Plain.TheViews as V
 use Rattle.mm_plain.specs.Shape.{Each, Proof, steps_of}
 use Rattle.mm_plain.specs.Sources.{label_of, sigma_of, is_pending}
-use Rattle.mm_plain.specs.Valid.{Setting, IsKnownSymbol, IsString, is_among, Names, good_layer, IsGood, IsSound, IsValid}
+use Rattle.mm_plain.specs.Valid.{Setting, IsKnownSymbol, IsString, Names, good_layer, IsGood, IsSound, IsValid}
 use Rattle.mm_sound.specs.Apart.{AreParted, KeepsPairs, IsApart}
 use Rattle.mm_sound.specs.Complete.{IsDone, IsComplete, IsSettled}
 use Rattle.mm_sound.specs.Proves.{Proves}
@@ -37,7 +37,7 @@ module _ (old new : List ℕ) (same : Agree old new) where
   names_moved : (at next id : ℕ) (sigma : Pairs) → Names (setting old at next) id sigma → Names (setting new at next) id sigma
   names_moved at next id sigma n = record {
     stands = stands_same old new same at id ∙ n.stands;
-    keys = λ x. n.keys x ∙ ap (λ vs. is_among vs x) (sym (variables_same old new same id));
+    keys = n.keys ∙ ap (map Var) (sym (variables_same old new same id));
     values = λ k d small. string_moved at next _ (n.values k d small);
     source = subst (λ h. IsString (setting new at next) (applied sigma h)) (sym (statement_same old new same id)) (string_moved at next _ n.source);
   }

@@ -35,5 +35,5 @@ short_by : (bytes : List ℕ) (b : Bool) → is_long bytes ≡ b → is_read byt
 short_by bytes true e read = absurd (false≢true (sym (long_refused bytes e) ∙ read))
 short_by bytes false e read = refl
 
-pub read_room : (bytes : List ℕ) → is_read bytes ≡ true → length bytes ≤ 134217728
+pub read_room : (bytes : List ℕ) → is_read bytes ≡ true → length bytes ≤ most_bytes
 read_room bytes read = no_more (length bytes) most_bytes (short_by bytes (is_long bytes) refl read)

@@ -6,6 +6,7 @@ use Rattle.std.proofs.lemmas.Slice.Eq.{bytes_eq-Decides}
 use Rattle.std.specs.List.{list_any}
 use Rattle.std.specs.Str.{bytes_eq}
 use Rattle.mm_scope.specs.Contents.{is_read, labels_of, stated_at, find_label, distinct_at}
+use Rattle.mm_scope.specs.Judged.{most_bytes}
 use Rattle.mm_stated.specs.declared.statement.Kind.TheVariants.{Theorem}
 use Rattle.mm_layout.specs.Normal.{normal_text}
 use Rattle.mm_subst.specs.Statements.{statement_of}
@@ -66,7 +67,7 @@ other_found bytes label at other e =
     other ((bytes_eq-Decides label (get_or (labels_of bytes) at [])).0 found.1)
 
 module _ (bytes : List ℕ) (at : ℕ) (read : is_read bytes ≡ true) (theorem : (stated_at bytes at).kind ≡ Theorem)
-    (x : Plain) (own : HasOwnLabels bytes x) (room : length (saved bytes at x) ≤ 134217728) where
+    (x : Plain) (own : HasOwnLabels bytes x) (room : length (saved bytes at x) ≤ most_bytes) where
   abbrev new : List ℕ
   new = saved bytes at x
 
@@ -150,7 +151,7 @@ module _ (bytes : List ℕ) (at : ℕ) (read : is_read bytes ≡ true) (theorem 
 
   pub room_again : (ys : List Plain) → HaveRoom bytes at ys → HaveRoom (saved bytes at x) at ys
   room_again [] h = tt
-  room_again (y ∷ ys) h = (record { own = own_again y h.0.own; room = subst (λ (b : List ℕ). length b ≤ 134217728) (sym (saved_again y)) h.0.room }, room_again ys h.1)
+  room_again (y ∷ ys) h = (record { own = own_again y h.0.own; room = subst (λ (b : List ℕ). length b ≤ most_bytes) (sym (saved_again y)) h.0.room }, room_again ys h.1)
 
   pub kind_again : (stated_at (saved bytes at x) at).kind ≡ Theorem
   kind_again = saved_agrees.kinds at ∙ theorem

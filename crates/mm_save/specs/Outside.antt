@@ -1,6 +1,7 @@
 -- The bytes outside the proof of a theorem, after any number of saves.
 use Rattle.std.specs.Prelude.{◌≡◌, ◌≤◌, ℕ, List, [], ◌∷◌, length, take, drop}
 use Rattle.mm_scope.specs.Contents.{stated_at}
+use Rattle.mm_scope.specs.Judged.{most_bytes}
 use Rattle.mm_plain.specs.declared.plain.Plain.{Plain}
 use Rattle.mm_plain.specs.Numbers.{HasOwnLabels}
 use Rattle.mm_save.specs.Saving.{saved}
@@ -14,7 +15,7 @@ pub record KeepsOutside (bytes : List ℕ) (at : ℕ) (new : List ℕ) : Type 0 
 -- a proof can be saved: its steps name statements of the database, and the bytes are not too many
 pub record HasRoom (bytes : List ℕ) (at : ℕ) (x : Plain) : Type 0 where
   pub own : HasOwnLabels bytes x
-  pub room : length (saved bytes at x) ≤ 134217728
+  pub room : length (saved bytes at x) ≤ most_bytes
 
 abbrev pub HaveRoom : List ℕ → ℕ → List Plain → Type 0
 HaveRoom bytes at [] = Unit {0}

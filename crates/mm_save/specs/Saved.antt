@@ -1,5 +1,6 @@
 -- What saving a proof answers.
 use Rattle.std.specs.Prelude.{◌≡◌, ◌≤◌, ◌<◌, ℕ, List, Result, Ok, Err, length}
+use Rattle.mm_scope.specs.Judged.{most_bytes}
 use Rattle.mm_scope.specs.declared.database.Database.{Database}
 use Rattle.mm_plain.specs.declared.plain.Plain.{Plain}
 use Rattle.mm_splice.specs.Keeping.{KeepsTheRest}
@@ -11,10 +12,10 @@ use Rattle.mm_save.specs.declared.fault.SaveFault.TheVariants.{TooLong, Memory}
 pub record IsSaved (bytes : List ℕ) (at : ℕ) (x : Plain) (new : List ℕ) : Type 0 where
   pub is : new ≡ saved bytes at x
   pub keeps : KeepsTheRest bytes at (saved_text bytes x)
-  pub room : length (saved bytes at x) ≤ 134217728
+  pub room : length (saved bytes at x) ≤ most_bytes
 
 -- That database; the one fault is that its bytes are too many, unless memory ran out.
 abbrev pub AnswersSave : List ℕ → ℕ → Plain → Result Database SaveFault → Type 0
 AnswersSave bytes at x (Ok d) = IsSaved bytes at x d
-AnswersSave bytes at x (Err TooLong) = 134217728 < length (saved bytes at x)
+AnswersSave bytes at x (Err TooLong) = most_bytes < length (saved bytes at x)
 AnswersSave bytes at x (Err Memory) = Unit {0}

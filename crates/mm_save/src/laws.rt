@@ -2,6 +2,7 @@
 
 ghost use Rattle.std.specs.Prelude.{◌≡◌, ◌≢◌, ◌≤◌, ◌<◌, ℕ, true, false, List, length};
 ghost use Rattle.mm_scope.specs.Contents.{is_read, labels_of, stated_at, distinct_at};
+ghost use Rattle.mm_scope.specs.Judged.{most_bytes};
 ghost use Rattle.mm_stated.specs.declared.statement.Kind.TheVariants.{Theorem};
 ghost use Rattle.mm_subst.specs.Statements.{statement_of};
 ghost use Rattle.mm_subst.specs.declared.symbol.WSym.{WSym};
@@ -27,8 +28,8 @@ pub fn saved_proofs_are_accepted(bytes: &[u8], at: StmtId)
     requires read { is_read bytes.now ≡ true }
     requires own { at.0 < length (labels_of bytes.now) }
     requires theorem { (stated_at bytes.now at.0).kind ≡ Theorem }
-    ensures proved { (p : Proof) → Proves bytes.now at.0 p → length (saved bytes.now at.0 p.plain) ≤ 134217728 → Accepts (saved bytes.now at.0 p.plain) (label_at bytes.now at.0) }
-    ensures without_pairs { (p : Proof) → IsValid bytes.now at.0 (statement_of bytes.now at.0) p → IsComplete bytes.now p.plain → names_pairs bytes.now p.plain ≡ false → length (saved bytes.now at.0 p.plain) ≤ 134217728 → Accepts (saved bytes.now at.0 p.plain) (label_at bytes.now at.0) }
+    ensures proved { (p : Proof) → Proves bytes.now at.0 p → length (saved bytes.now at.0 p.plain) ≤ most_bytes → Accepts (saved bytes.now at.0 p.plain) (label_at bytes.now at.0) }
+    ensures without_pairs { (p : Proof) → IsValid bytes.now at.0 (statement_of bytes.now at.0) p → IsComplete bytes.now p.plain → names_pairs bytes.now p.plain ≡ false → length (saved bytes.now at.0 p.plain) ≤ most_bytes → Accepts (saved bytes.now at.0 p.plain) (label_at bytes.now at.0) }
 {
     let _ = bytes;
 }
@@ -39,7 +40,7 @@ pub fn incomplete_saves_are_incomplete(bytes: &[u8], at: StmtId)
     requires read { is_read bytes.now ≡ true }
     requires own { at.0 < length (labels_of bytes.now) }
     requires theorem { (stated_at bytes.now at.0).kind ≡ Theorem }
-    ensures { (p : Proof) → IsValid bytes.now at.0 (statement_of bytes.now at.0) p → IsSettled bytes.now p.plain → IsApart bytes.now (distinct_at bytes.now at.0) p.plain → has_unknown p.plain ≡ true → length (saved bytes.now at.0 p.plain) ≤ 134217728 → verdict_of (saved bytes.now at.0 p.plain) at.0 ≡ Incomplete }
+    ensures { (p : Proof) → IsValid bytes.now at.0 (statement_of bytes.now at.0) p → IsSettled bytes.now p.plain → IsApart bytes.now (distinct_at bytes.now at.0) p.plain → has_unknown p.plain ≡ true → length (saved bytes.now at.0 p.plain) ≤ most_bytes → verdict_of (saved bytes.now at.0 p.plain) at.0 ≡ Incomplete }
 {
     let _ = bytes;
 }
@@ -48,8 +49,8 @@ pub fn incomplete_saves_are_incomplete(bytes: &[u8], at: StmtId)
 pub fn other_theorems_stay(bytes: &[u8], at: StmtId)
     requires read { is_read bytes.now ≡ true }
     requires theorem { (stated_at bytes.now at.0).kind ≡ Theorem }
-    ensures kept { (x : Plain) (label : List ℕ) → HasOwnLabels bytes.now x → length (saved bytes.now at.0 x) ≤ 134217728 → label ≢ label_at bytes.now at.0 → Accepts bytes.now label → Accepts (saved bytes.now at.0 x) label }
-    ensures back { (x : Plain) (label : List ℕ) → HasOwnLabels bytes.now x → length (saved bytes.now at.0 x) ≤ 134217728 → label ≢ label_at bytes.now at.0 → Accepts (saved bytes.now at.0 x) label → Accepts bytes.now label }
+    ensures kept { (x : Plain) (label : List ℕ) → HasOwnLabels bytes.now x → length (saved bytes.now at.0 x) ≤ most_bytes → label ≢ label_at bytes.now at.0 → Accepts bytes.now label → Accepts (saved bytes.now at.0 x) label }
+    ensures back { (x : Plain) (label : List ℕ) → HasOwnLabels bytes.now x → length (saved bytes.now at.0 x) ≤ most_bytes → label ≢ label_at bytes.now at.0 → Accepts (saved bytes.now at.0 x) label → Accepts bytes.now label }
 {
     let _ = bytes;
 }
@@ -60,7 +61,7 @@ pub fn saves_keep_the_outside(bytes: &[u8], at: StmtId)
     requires read { is_read bytes.now ≡ true }
     requires theorem { (stated_at bytes.now at.0).kind ≡ Theorem }
     ensures outside { (xs : List Plain) → HaveRoom bytes.now at.0 xs → KeepsOutside bytes.now at.0 (saved_in_turn bytes.now at.0 xs) }
-    ensures again { (x y : Plain) → HasOwnLabels bytes.now x → length (saved bytes.now at.0 x) ≤ 134217728 → saved (saved bytes.now at.0 x) at.0 y ≡ saved bytes.now at.0 y }
+    ensures again { (x y : Plain) → HasOwnLabels bytes.now x → length (saved bytes.now at.0 x) ≤ most_bytes → saved (saved bytes.now at.0 x) at.0 y ≡ saved bytes.now at.0 y }
 {
     let _ = bytes;
 }
@@ -70,9 +71,9 @@ pub fn saves_keep_the_outside(bytes: &[u8], at: StmtId)
 pub fn valid_proofs_stay_valid(bytes: &[u8], at: StmtId)
     requires read { is_read bytes.now ≡ true }
     requires theorem { (stated_at bytes.now at.0).kind ≡ Theorem }
-    ensures valid { (x : Plain) (other : ℕ) (goal : List WSym) (q : Proof) → HasOwnLabels bytes.now x → length (saved bytes.now at.0 x) ≤ 134217728 → IsValid bytes.now other goal q → IsValid (saved bytes.now at.0 x) other goal q }
-    ensures statements { (x : Plain) (id : ℕ) → HasOwnLabels bytes.now x → length (saved bytes.now at.0 x) ≤ 134217728 → statement_of (saved bytes.now at.0 x) id ≡ statement_of bytes.now id }
-    ensures pending { (x y : Plain) → HasOwnLabels bytes.now x → length (saved bytes.now at.0 x) ≤ 134217728 → is_pending (saved bytes.now at.0 x) y ≡ is_pending bytes.now y }
+    ensures valid { (x : Plain) (other : ℕ) (goal : List WSym) (q : Proof) → HasOwnLabels bytes.now x → length (saved bytes.now at.0 x) ≤ most_bytes → IsValid bytes.now other goal q → IsValid (saved bytes.now at.0 x) other goal q }
+    ensures statements { (x : Plain) (id : ℕ) → HasOwnLabels bytes.now x → length (saved bytes.now at.0 x) ≤ most_bytes → statement_of (saved bytes.now at.0 x) id ≡ statement_of bytes.now id }
+    ensures pending { (x y : Plain) → HasOwnLabels bytes.now x → length (saved bytes.now at.0 x) ≤ most_bytes → is_pending (saved bytes.now at.0 x) y ≡ is_pending bytes.now y }
 {
     let _ = bytes;
 }

@@ -1,6 +1,6 @@
 -- The mandatory hypotheses by the tables are those by looking back.
 use Rattle.std.proofs.Common.{◌≡◌, ℕ, zero, Bool, true, false, cond, ◌&&◌, ◌||◌, List, [], ◌∷◌, ◌++◌, filter, flat_map, None, Some, nat_eq, slice_index, refl, sym, ap, ◌∙◌, arith}
-use Rattle.std.proofs.lemmas.Bool.{eqb-true, true≢false, false≢true}
+use Rattle.std.proofs.lemmas.Bool.{eqb-true, true≢false, false≢true, or_left, or_right}
 use Rattle.std.specs.List.{list_any, cons_option}
 use Rattle.mm_tables.proofs.LookBack.{in_force_now}
 use Rattle.mm_tables.specs.Moves.{in_force}
@@ -19,7 +19,7 @@ use Rattle.mm_scope.proofs.Booleans.{list_any-append}
 use Rattle.mm_scope.proofs.Floats.{last_float, floats_it, FloatsKnown, active_rises, floated_as, essential_moves, essentials_in, essentials_as, any_of}
 use Rattle.mm_scope.proofs.Layering.{LayersAgree}
 use Rattle.mm_scope.proofs.LookBack.{holds}
-use Rattle.mm_stated.proofs.Rising.{same_rising, rises_filter, rising_rises, rising_any, or_here, or_later}
+use Rattle.mm_stated.proofs.Rising.{same_rising, rises_filter, rising_rises, rising_any}
 use Rattle.mm_scope.proofs.Simulation.{Agrees}
 
 any_filter : (k : ℕ) (p : ℕ → Bool) (xs : List ℕ) → list_any (nat_eq k) (filter p xs) ≡ (p k && list_any (nat_eq k) xs)
@@ -98,10 +98,10 @@ found p [] on = absurd (false≢true on)
 found p (x ∷ xs) on = by (p x) refl (found p xs)
   where
     by : (b : Bool) → p x ≡ b → (list_any p xs ≡ true → Found p xs) → Found p (x ∷ xs)
-    by true e later = record { one = x; among = or_here (nat_eq x x) (list_any (nat_eq x) xs) (itself x); passes = e }
+    by true e later = record { one = x; among = or_left (nat_eq x x) (list_any (nat_eq x) xs) (itself x); passes = e }
     by false e later =
         let f = later (ap (λ b. b || list_any p xs) (sym e) ∙ on) in
-        record { one = f.one; among = or_later (nat_eq f.one x) (list_any (nat_eq f.one) xs) f.among; passes = f.passes }
+        record { one = f.one; among = or_right (nat_eq f.one x) (list_any (nat_eq f.one) xs) f.among; passes = f.passes }
 
 both : (a b : Bool) → (a && b) ≡ true → (a ≡ true) × (b ≡ true)
 both true b e = (refl, e)

@@ -1,5 +1,5 @@
 -- What follows where a database is read.
-use Rattle.std.proofs.Common.{◌≡◌, ◌≤◌, ℕ, Bool, true, false, List, length, take, nat_lt, refl, sym, ◌∙◌, arith}
+use Rattle.std.proofs.Common.{◌+◌, ◌≡◌, ◌≤◌, ℕ, Bool, true, false, List, length, take, nat_lt, refl, sym, ◌∙◌, arith}
 use Rattle.std.proofs.lemmas.Bool.{true≢false}
 use Rattle.mm_scope.specs.Contents.{is_read}
 use Rattle.mm_scope.specs.Databases.{database_of}
@@ -13,9 +13,9 @@ short_by : (bytes : List ℕ) (long : Bool) → is_long bytes ≡ long → is_re
 short_by bytes true e h = absurd (true≢false (sym h ∙ long_refused bytes e))
 short_by bytes false e h = not_more most_bytes (length bytes) e
 
-pub is_read-length : (bytes : List ℕ) → is_read bytes ≡ true → length bytes ≤ 134217728
+pub is_read-length : (bytes : List ℕ) → is_read bytes ≡ true → length bytes ≤ most_bytes
 is_read-length bytes h = short_by bytes (is_long bytes) refl h
 
 -- the first bytes of a file say what all of them say
-pub first_bytes : (bytes : List ℕ) → database_of (take 134217729 bytes) ≡ database_of bytes
+pub first_bytes : (bytes : List ℕ) → database_of (take (most_bytes + 1) bytes) ≡ database_of bytes
 first_bytes bytes = same_database bytes

@@ -13,11 +13,11 @@ use Rattle.mm_tokens.proofs.Words.{parts_of}
 use Rattle.mm_scope.specs.Contents.{events_in, events_of, statements_of, stated_at}
 use Rattle.mm_scope.specs.Databases.{database_of, read_by, at_the_end, unless_open, unless_begun, nothing_read}
 use Rattle.mm_scope.specs.Events.{Event, put, constant, variable, float, essential, asserted, theorem, distinct, opened, closed, statements, open_blocks}
-use Rattle.mm_scope.specs.Judged.{is_long, judged, clean, before_bad}
+use Rattle.mm_scope.specs.Judged.{most_bytes, is_long, judged, clean, before_bad}
 use Rattle.mm_scope.specs.Looks.{look_back}
 use Rattle.mm_scope.specs.Reading.{text_of, after, step, read_from, with_comment, without_comment}
 use Rattle.mm_stated.specs.Stated.{Stated, no_statement}
-use Rattle.mm_scope.specs.Steps.{Answers, State, unless, symbol_checks, take_symbol, is_full, a_label, a_constant, a_variable, a_float, a_symbol, a_distinct, at_text, at_end, at_proof, unlabelled, at_constants, labelled, at_open, at_close, step_by}
+use Rattle.mm_scope.specs.Steps.{most_label, Answers, State, unless, symbol_checks, take_symbol, is_full, a_label, a_constant, a_variable, a_float, a_symbol, a_distinct, at_text, at_end, at_proof, unlabelled, at_constants, labelled, at_open, at_close, step_by}
 use Rattle.mm_tokens.specs.Words.{is_bad_label, is_bad_symbol, word_of}
 use Rattle.mm_tokens.specs.declared.word.Word.{Word}
 use Rattle.mm_tokens.specs.declared.word.Word.TheVariants as word
@@ -58,7 +58,7 @@ unless_good n (c ∷ cs) s g = either n c.0 (Err c.1) (unless cs (Ok s)) tt (unl
 a_label_good : (n : ℕ) (s : State (List Event)) (a : Answers) (t : List ℕ) (p : ℕ) → Good n s → IfFine (a_label s a t p) (Good n)
 unfolding a_label
 a_label_good n s a t p g =
-    either n (is_bad_label t) _ _ tt (either n (a.label || a.known) _ _ tt (either n (nat_lt 255 (length t)) _ _ tt (g.0, g.2, g.2)))
+    either n (is_bad_label t) _ _ tt (either n (a.label || a.known) _ _ tt (either n (nat_lt most_label (length t)) _ _ tt (g.0, g.2, g.2)))
 
 a_float_good : (n : ℕ) (s : State (List Event)) (a : Answers) (p : ℕ) → Good n s → IfFine (a_float s a p) (Good n)
 unfolding a_float
@@ -219,7 +219,7 @@ clean_shorter bytes None = omega arith
 clean_shorter bytes (Some p) = take_shorter p bytes
 
 judged_shorter : (bytes : List ℕ) → length (clean (judged bytes)) ≤ length bytes
-judged_shorter bytes = omega (arith, clean_shorter (judged bytes) (position is_bad (judged bytes)), take_shorter 134217729 bytes)
+judged_shorter bytes = omega (arith, clean_shorter (judged bytes) (position is_bad (judged bytes)), take_shorter (most_bytes + 1) bytes)
 
 database_good : (bytes : List ℕ) → IfFine (database_of bytes) (EventsStand (length bytes))
 unfolding database_of

@@ -1,6 +1,6 @@
 -- The active `$f` and `$e`, by looking back.
 use Rattle.std.proofs.Common.{◌≡◌, ℕ, zero, suc, ◌≤◌, ◌<◌, Bool, true, false, cond, ◌&&◌, ◌||◌, List, [], ◌∷◌, ◌++◌, Option, length, filter, nat_eq, slice_index, refl, sym, ap, ◌∙◌, subst, arith, length-append}
-use Rattle.std.proofs.lemmas.Bool.{eqb-true, true≢false, false≢true}
+use Rattle.std.proofs.lemmas.Bool.{eqb-true, true≢false, false≢true, or_left, or_right}
 use Rattle.std.proofs.lemmas.List.{get_or_append_left}
 use Rattle.std.proofs.Math.Seq.{get_or-append_seam}
 use Rattle.std.specs.List.{list_any}
@@ -15,7 +15,7 @@ use Rattle.mm_stated.specs.declared.statement.Kind.TheVariants as kind
 use Rattle.mm_scope.specs.declared.ending.Ending.TheVariants.{Active, Floated}
 use Rattle.mm_scope.proofs.Booleans.{list_any-append}
 use Rattle.mm_scope.proofs.Declared.{any_pushed, or_false}
-use Rattle.mm_stated.proofs.Rising.{Rises, rises_push, or_here, or_later}
+use Rattle.mm_stated.proofs.Rising.{Rises, rises_push}
 
 -- blocks, and the `$e` that end with them, by id
 unfoldable pub essential_moves : List Event → List (Move ℕ)
@@ -228,7 +228,7 @@ fewer p n [] on = on
 fewer p n (move.closed ∷ ms) on = fewer p (suc n) ms on
 fewer p zero (move.opened ∷ ms) on = on
 fewer p (suc n) (move.opened ∷ ms) on = fewer p n ms on
-fewer p zero (move.item xs ∷ ms) on = list_any-append p (in_force zero ms) xs ∙ or_here (list_any p (in_force zero ms)) (list_any p xs) (fewer p zero ms on)
+fewer p zero (move.item xs ∷ ms) on = list_any-append p (in_force zero ms) xs ∙ or_left (list_any p (in_force zero ms)) (list_any p xs) (fewer p zero ms on)
 fewer p (suc n) (move.item xs ∷ ms) on = fewer p (suc n) ms on
 fewer p zero (move.noted ∷ ms) on = fewer p zero ms on
 fewer p (suc n) (move.noted ∷ ms) on = fewer p (suc n) ms on
@@ -238,8 +238,8 @@ any_of p k [] on it = absurd (false≢true on)
 any_of p k (x ∷ xs) on it = by (nat_eq k x) refl (λ rest. any_of p k xs rest it)
   where
     by : (b : Bool) → nat_eq k x ≡ b → (list_any (nat_eq k) xs ≡ true → list_any p xs ≡ true) → list_any p (x ∷ xs) ≡ true
-    by true e later = or_here (p x) (list_any p xs) (ap p (sym (eqb-true k x e)) ∙ it)
-    by false e later = or_later (p x) (list_any p xs) (later (ap (λ b. b || list_any (nat_eq k) xs) (sym e) ∙ on))
+    by true e later = or_left (p x) (list_any p xs) (ap p (sym (eqb-true k x e)) ∙ it)
+    by false e later = or_right (p x) (list_any p xs) (later (ap (λ b. b || list_any (nat_eq k) xs) (sym e) ∙ on))
 
 -- the last `$f` of a variable is the active one
 abbrev pub FloatsKnown : List Event → Type 0

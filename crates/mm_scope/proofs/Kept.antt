@@ -7,7 +7,7 @@ use Rattle.std.specs.Str.{bytes_eq}
 use Rattle.mm_tokens.specs.Words.{is_bad_label, is_bad_symbol}
 use Rattle.mm_scope.specs.Events.{Event, put, constant, variable, float, essential, asserted, theorem, distinct, opened, closed, symbols, labels, open_blocks}
 use Rattle.mm_scope.specs.Looks.{look_back, known_as}
-use Rattle.mm_scope.specs.Steps.{Answers, State, unless, symbol_checks, take_symbol, is_full, a_label, a_constant, a_variable, a_float, a_symbol, a_distinct, at_text, at_end, at_proof, unlabelled, at_constants, labelled, at_open, at_close, step_by}
+use Rattle.mm_scope.specs.Steps.{most_label, Answers, State, unless, symbol_checks, take_symbol, is_full, a_label, a_constant, a_variable, a_float, a_symbol, a_distinct, at_text, at_end, at_proof, unlabelled, at_constants, labelled, at_open, at_close, step_by}
 use Rattle.mm_tokens.specs.declared.word.Word.{Word}
 use Rattle.mm_tokens.specs.declared.word.Word.TheVariants as word
 use Rattle.mm_scope.specs.declared.mode.Mode.{Mode}
@@ -75,7 +75,7 @@ a_label_keeps s t p g =
     let a : Answers = look_back s.context t in
     fine_if (is_bad_label t) _ _ Good (λ _. tt) (λ _.
     fine_if (a.label || a.known) _ _ Good (λ _. tt) (λ off.
-    fine_if (nat_lt 255 (length t)) _ _ Good (λ _. tt) (λ _.
+    fine_if (nat_lt most_label (length t)) _ _ Good (λ _. tt) (λ _.
     record { held = g.held; fresh = sym (label_as s.context t (position (bytes_eq t) (symbols s.context))) ∙ (neither a.label a.known off).0; ready = tt })))
 
 -- what the next token adds to a statement

@@ -17,7 +17,7 @@ use Rattle.mm_scope.specs.Laws.{openings, closings, NoneEnds, IsConstant, IsInSc
 use Rattle.mm_scope.specs.Looks.{look_back, known_as, moves, constants, is_active_of}
 use Rattle.mm_tables.specs.Moves.{in_force}
 use Rattle.mm_scope.specs.Reading.{text_of, after, step, read_from}
-use Rattle.mm_scope.specs.Steps.{Answers, State, symbol_checks, take_symbol, is_full, a_label, a_constant, a_variable, a_float, a_symbol, a_distinct, at_text, at_end, at_proof, unlabelled, at_constants, labelled, at_open, at_close, step_by}
+use Rattle.mm_scope.specs.Steps.{most_label, Answers, State, symbol_checks, take_symbol, is_full, a_label, a_constant, a_variable, a_float, a_symbol, a_distinct, at_text, at_end, at_proof, unlabelled, at_constants, labelled, at_open, at_close, step_by}
 use Rattle.mm_tokens.specs.Pieces.{pieces_of, open_in}
 use Rattle.mm_scope.specs.Contents.{events_in, events_of}
 use Rattle.mm_scope.specs.Databases.{nothing_read, at_the_end, unless_open, unless_begun, read_by, database_of}
@@ -202,7 +202,7 @@ a_label_lawful s t p law =
     let a : Answers = look_back s.context t in
     fine_if (is_bad_label t) _ _ Lawful (λ _. tt) (λ _.
     fine_if (a.label || a.known) _ _ Lawful (λ _. tt) (λ _.
-    fine_if (nat_lt 255 (length t)) _ _ Lawful (λ _. tt) (λ _.
+    fine_if (nat_lt most_label (length t)) _ _ Lawful (λ _. tt) (λ _.
     record { law = law; fits = tt })))
 
 a_constant_lawful : (s : State (List Event)) → s.mode ≡ mode.Constants → (t : List ℕ) (p : ℕ) → Laws s.context → IfFine (a_constant put s (look_back s.context t) t p) Lawful

@@ -1,5 +1,5 @@
 -- A longer file is judged by its first bytes.
-use Rattle.std.proofs.Common.{◌≡◌, ℕ, suc, Bool, true, false, List, Option, None, Some, length, take, nat_lt, position, Result, Ok, Err, is_ok, refl, ap, ◌∙◌, arith}
+use Rattle.std.proofs.Common.{◌+◌, ◌≡◌, ℕ, suc, Bool, true, false, List, Option, None, Some, length, take, nat_lt, position, Result, Ok, Err, is_ok, refl, ap, ◌∙◌, arith}
 use Rattle.std.proofs.lemmas.Grind.{common_steps}
 use Rattle.std.proofs.lemmas.Bool.{false≢true}
 use Rattle.mm_tokens.specs.Bytes.{is_bad}
@@ -19,11 +19,11 @@ take_twice k l = grind (arith, common_steps)
 more_left : {A : Type 0} (k m : ℕ) (l : List A) → m ≡ suc k → nat_lt k (length (take m l)) ≡ nat_lt k (length l)
 more_left k m l e = grind (arith, common_steps, e)
 
-pub same_database : (bytes : List ℕ) → database_of (take 134217729 bytes) ≡ database_of bytes
+pub same_database : (bytes : List ℕ) → database_of (take (most_bytes + 1) bytes) ≡ database_of bytes
 unfolding database_of
 same_database bytes =
-    ap (λ b. read_by b (is_long (take 134217729 bytes))) (take_twice 134217729 bytes)
-    ∙ ap (read_by (judged bytes)) (more_left most_bytes 134217729 bytes refl)
+    ap (λ b. read_by b (is_long (take (most_bytes + 1) bytes))) (take_twice (most_bytes + 1) bytes)
+    ∙ ap (read_by (judged bytes)) (more_left most_bytes (most_bytes + 1) bytes refl)
 
 end_refused : (s : State (List Event)) (bad : Option ℕ) (long : Bool) (unclosed : Option ℕ) → long ≡ true → is_ok (at_the_end s bad long unclosed) ≡ false
 end_refused s (Some p) long unclosed e = refl

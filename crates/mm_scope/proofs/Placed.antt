@@ -12,7 +12,7 @@ use Rattle.mm_scope.specs.Looks.{look_back}
 use Rattle.mm_stated.specs.Mandatory.{statement_at}
 use Rattle.mm_scope.specs.Reading.{text_of, after, step, read_from, with_comment, without_comment}
 use Rattle.mm_stated.specs.Stated.{Stated, no_statement}
-use Rattle.mm_scope.specs.Steps.{Answers, State, symbol_checks, take_symbol, is_full, a_label, a_constant, a_variable, a_float, a_symbol, a_distinct, at_text, at_end, at_proof, unlabelled, at_constants, labelled, at_open, at_close, step_by}
+use Rattle.mm_scope.specs.Steps.{most_label, Answers, State, symbol_checks, take_symbol, is_full, a_label, a_constant, a_variable, a_float, a_symbol, a_distinct, at_text, at_end, at_proof, unlabelled, at_constants, labelled, at_open, at_close, step_by}
 use Rattle.mm_tokens.specs.Words.{word_of, keyword_of, is_bad_label, is_bad_symbol}
 use Rattle.mm_scope.specs.declared.fault.ReadFault.{ReadFault}
 use Rattle.mm_scope.specs.declared.mode.Mode.{Mode}
@@ -71,7 +71,7 @@ module _ (low high : ℕ) (up : low ≤ high) where
   label_placed s a t p g =
       fine_if (is_bad_label t) _ _ (Placed high) (λ _. tt) (λ _.
       fine_if (a.label || a.known) _ _ (Placed high) (λ _. tt) (λ _.
-      fine_if (nat_lt 255 (length t)) _ _ (Placed high) (λ _. tt) (λ _.
+      fine_if (nat_lt most_label (length t)) _ _ (Placed high) (λ _. tt) (λ _.
       record { proofs = (raised s g).proofs; begun = tt })))
 
   constant_placed : (s : State (List Event)) (a : Answers) (t : List ℕ) (p : ℕ) → Placed low s → IfFine (a_constant put s a t p) (Placed high)

@@ -1,5 +1,5 @@
 -- The tables of a database that was read.
-use Rattle.std.proofs.Common.{◌≡◌, ◌<◌, ◌≤◌, ℕ, Bool, true, false, List, [], ◌∷◌, Option, None, Some, length, position, slice_get, slice_index, nat_eq, Result, Ok, Err, is_ok, sym, ap, ◌∙◌, subst, arith}
+use Rattle.std.proofs.Common.{◌+◌, ◌≡◌, ◌<◌, ◌≤◌, ℕ, Bool, true, false, List, [], ◌∷◌, Option, None, Some, length, position, slice_get, slice_index, nat_eq, Result, Ok, Err, is_ok, sym, ap, ◌∙◌, subst, arith}
 use Rattle.std.proofs.lemmas.List.{length-take}
 use Rattle.std.specs.List.{list_any}
 use Rattle.mm_tokens.specs.Bytes.{is_bad}
@@ -10,7 +10,7 @@ use Rattle.mm_scope.specs.Contents.{events_in, events_of, is_read, labels_of, st
 use Rattle.mm_scope.specs.Contexts.{Context, context_of, state_of}
 use Rattle.mm_scope.specs.Databases.{nothing_read, unless_open, at_the_end, read_by, database_of}
 use Rattle.mm_scope.specs.Events.{Event, put, symbols, labels, statements, active_hypotheses, active_variables, active_distinct, open_blocks}
-use Rattle.mm_scope.specs.Judged.{is_long, judged, clean, before_bad}
+use Rattle.mm_scope.specs.Judged.{most_bytes, is_long, judged, clean, before_bad}
 use Rattle.mm_scope.specs.Keeps.{Keeps, Recalls, KeepsMoments}
 use Rattle.mm_scope.specs.Looks.{look_back, constants}
 use Rattle.mm_scope.specs.Reading.{after, read_from}
@@ -57,7 +57,7 @@ clean_by bytes None = omega arith
 clean_by bytes (Some p) = omega (arith, length-take p bytes)
 
 readable_length : (bytes : List ℕ) → length (clean (judged bytes)) ≤ length bytes
-readable_length bytes = omega (arith, clean_by (judged bytes) (position is_bad (judged bytes)), length-take 134217729 bytes)
+readable_length bytes = omega (arith, clean_by (judged bytes) (position is_bad (judged bytes)), length-take (most_bytes + 1) bytes)
 
 all_up : (low high : ℕ) (past : List Event) → low ≤ high → AllPlaced low (statements past) → AllPlaced high (statements past)
 all_up low high past h all id small = ((all id small).0, omega (arith, h, (all id small).1))

@@ -1,8 +1,8 @@
 -- The bytes that are judged.
-use Rattle.std.specs.Prelude.{ℕ, Bool, nat_lt, List, Option, None, Some, length, position, take}
+use Rattle.std.specs.Prelude.{ℕ, ◌+◌, Bool, nat_lt, List, Option, None, Some, length, position, take}
 use Rattle.mm_tokens.specs.Bytes.{is_bad}
 
--- the longest database
+-- the longest database, in bytes
 abbrev pub most_bytes : ℕ
 most_bytes = 134217728
 
@@ -11,7 +11,7 @@ is_long bytes = nat_lt most_bytes (length bytes)
 
 -- a longer one is judged by one byte more than that
 abbrev pub judged : List ℕ → List ℕ
-judged bytes = take 134217729 bytes
+judged bytes = take (most_bytes + 1) bytes
 
 -- what stands before the first bad byte
 abbrev pub before_bad : List ℕ → Option ℕ → List ℕ

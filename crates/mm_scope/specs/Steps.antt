@@ -22,9 +22,13 @@ pub record Answers : Type 0 where
   pub label : Bool
   pub deep : Bool
 
--- the longest statement, and the longest label
+-- the longest statement, in symbols
 abbrev pub most_symbols : ℕ
 most_symbols = 32768
+
+-- the longest label, in bytes
+abbrev pub most_label : ℕ
+most_label = 255
 
 -- What has been read: the context; of the statement that is begun its form, its place, its label, its description,
 -- its symbols and where its proof begins; and the last comment since the last token.
@@ -60,7 +64,7 @@ module _ {C : Type 0} where
   a_label s a t p =
       if is_bad_label t then Err (fault.BadLabel p)
       else (if (a.label || a.known) then Err (fault.LabelUsed p)
-      else (if nat_lt 255 (length t) then Err (fault.TooLong p)
+      else (if nat_lt most_label (length t) then Err (fault.TooLong p)
       else Ok (record s { mode = mode.Labelled; begun = p; label = t; described = s.comment })))
 
   -- a symbol of `$f`: a constant, then a variable

@@ -1,6 +1,6 @@
 //! Reading a whole file.
 
-ghost use Rattle.std.specs.Prelude.{◌≡◌, ◌≤◌, ◌<◌, IfSome, length, position};
+ghost use Rattle.std.specs.Prelude.{◌+◌, ◌≡◌, ◌≤◌, ◌<◌, IfSome, length, position};
 ghost use Rattle.mm_tokens.specs.Bytes.{is_bad};
 ghost use Rattle.mm_scope.specs.ByTables.{tables_of, at_end_of_file, at_the_end};
 ghost use Rattle.mm_scope.specs.Contexts.{GivesReader, state_of};
@@ -14,12 +14,12 @@ use mm_tokens::bad_byte;
 use std::alloc::Global;
 
 /// The longest database, in bytes.
-const MOST_BYTES: usize = 134_217_728;
+pub const MOST_BYTES: usize = 134_217_728;
 
 /// The bytes that are judged.
 fn judged(bytes: &[u8]) -> &[u8]
     ensures value { result.now ≡ judged bytes.now }
-    ensures small { length result.now ≤ 134217729 }
+    ensures small { length result.now ≤ MOST_BYTES + 1 }
 {
     if bytes.len() > MOST_BYTES {
         &bytes[..MOST_BYTES + 1]

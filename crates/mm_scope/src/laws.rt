@@ -1,14 +1,15 @@
 //! What holds of each database.
 
-ghost use Rattle.std.specs.Prelude.{◌≡◌, take};
+ghost use Rattle.std.specs.Prelude.{◌+◌, ◌≡◌, take};
 ghost use Rattle.mm_scope.specs.Contents.{events_of};
 ghost use Rattle.mm_scope.specs.Databases.{database_of};
 ghost use Rattle.mm_scope.specs.Laws.{SymbolsAreActive, SymbolsAreNumbered, LabelsDiffer};
 ghost use Rattle.mm_scope.specs.Events.{symbols};
+ghost use Rattle.mm_scope.specs.Judged.{most_bytes};
 
 /// A file longer than 134,217,728 bytes is judged by one byte more than that: what stands later changes nothing.
 pub fn first_bytes_decide(bytes: &[u8])
-    ensures { database_of (take 134217729 bytes.now) ≡ database_of bytes.now }
+    ensures { database_of (take (most_bytes + 1) bytes.now) ≡ database_of bytes.now }
 {
     let _ = bytes;
 }

@@ -19,7 +19,10 @@ use mm_tokens::{Span, Word, is_bad_label, is_bad_symbol};
 use std::alloc::Global;
 
 /// The longest statement, in symbols.
-const MOST_SYMBOLS: usize = 32_768;
+pub const MOST_SYMBOLS: usize = 32_768;
+
+/// The longest label, in bytes.
+pub const MOST_LABEL: usize = 255;
 
 /// What has been read, and the statement that is begun.
 #[derive(Drop)]
@@ -76,7 +79,7 @@ impl Reader {
         if self.is_label(text) || self.symbols.find(text).known {
             return Err(ReadFault::LabelUsed(place));
         }
-        if text.len() > 255 {
+        if text.len() > MOST_LABEL {
             return Err(ReadFault::TooLong(place));
         }
         self.label = Vec::from_slice(alloc, text)?;

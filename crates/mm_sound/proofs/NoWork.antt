@@ -1,6 +1,6 @@
 -- A complete proof has no work variable.
-use Rattle.std.proofs.Common.{◌≡◌, ℕ, Bool, true, false, ◌||◌, ◌==◌, List, [], ◌∷◌, ◌++◌, map, nat_eq, Option, None, Some, is_some, slice_index, refl, sym, ap, ◌∙◌, subst, if◌then◌else◌}
-use Rattle.std.proofs.lemmas.Bool.{true≢false, false≢true, eqb-true}
+use Rattle.std.proofs.Common.{◌≡◌, ℕ, Bool, true, false, ◌||◌, ◌==◌, List, [], ◌∷◌, ◌++◌, map, nat_eq, Option, None, Some, is_some, IfSome, slice_index, refl, sym, ap, ◌∙◌, subst, if◌then◌else◌}
+use Rattle.std.proofs.lemmas.Bool.{true≢false, false≢true, eqb-true, or_parts, or_from}
 use Rattle.std.proofs.lemmas.List.Concat.{flat_map-cons}
 use Rattle.std.proofs.lemmas.List.Folds.{list_any-append}
 use Rattle.std.specs.List.{flat_map, list_any, cons_option, AllByRecursion as ByRecursion}
@@ -11,34 +11,25 @@ use Rattle.mm_subst.specs.Statements.{symbol_of, statement_of}
 use Rattle.mm_subst.specs.Substitutions.{Pairs, value_at, value_of, or_itself, applied}
 use Rattle.mm_subst.specs.Symbols.{is_work, has_work}
 use Rattle.mm_subst.specs.declared.symbol.WSym.{WSym}
-use Rattle.mm_subst.specs.declared.symbol.WSym.TheVariants.{Const, Var}
+use Rattle.mm_subst.specs.declared.symbol.WSym.TheVariants.{Const, Var, Work}
 use Rattle.mm_plain.specs.declared.plain.Plain.{Plain}
 use Rattle.mm_plain.specs.Shape.{Each, Proof, known, steps_of, target_of}
-use Rattle.mm_plain.specs.Valid.{Setting, setting_of, is_among, IsInstance, IsSound, IsValid}
+use Rattle.mm_plain.specs.Valid.{Setting, setting_of, IsInstance, IsSound, IsValid}
+use Rattle.mm_plain.proofs.Keys.{is_among, keys_among}
 use Rattle.mm_plain.proofs.Equations.{by_trees, steps_of-known, target_of-known}
 use Rattle.mm_plain.proofs.Kept.{kids-sound}
+use Rattle.mm_plain.proofs.Read.{source_of-known, sigma_of-known}
 use Rattle.mm_stack.specs.Running.{is_float}
-use Rattle.mm_sound.specs.Complete.{IsDone, IsComplete}
+use Rattle.mm_plain.specs.Sources.{sigma_of}
+use Rattle.mm_sound.specs.Complete.{IsDone, IsComplete, IsPlain, IsPlainStep}
 use Rattle.mm_sound.proofs.Popped.{IsFloat, is_formed_float, float_varies, other_varies_by}
 use Rattle.mm_sound.proofs.Runs.{split, settled, never_unknown, premises_by, variables_by, premises_are, variables_are}
 
--- a string without work variables
-abbrev pub IsPlain : List WSym → Type 0
-IsPlain s = has_work s ≡ false
-
-neither : (a b : Bool) → (a || b) ≡ false → (a ≡ false) × (b ≡ false)
-neither true b h = absurd (true≢false h)
-neither false b h = (refl, h)
-
-or_none : (a b : Bool) → a ≡ false → b ≡ false → (a || b) ≡ false
-or_none true b h g = absurd (true≢false h)
-or_none false b h g = g
-
 parts : (s t : List WSym) → IsPlain (s ++ t) → IsPlain s × IsPlain t
-parts s t h = neither (has_work s) (has_work t) (sym (list_any-append is_work s t) ∙ h)
+parts s t h = or_parts (has_work s) (has_work t) (sym (list_any-append is_work s t) ∙ h)
 
 joined : (s t : List WSym) → IsPlain s → IsPlain t → IsPlain (s ++ t)
-joined s t h g = list_any-append is_work s t ∙ or_none (has_work s) (has_work t) h g
+joined s t h g = list_any-append is_work s t ∙ or_from (has_work s) (has_work t) h g
 
 own_symbol : (b : Bool) (n : ℕ) → IsPlain ((if b then Var n else Const n) ∷ [])
 own_symbol true n = refl
@@ -120,7 +111,7 @@ target_plain c t l s kids is source plain =
     let b : Bool = is_hypothesis (stated_at c.bytes l).kind in
     let vs : List ℕ = variables_by c.bytes l b in
     subst IsPlain (sym source) (source_plain c.bytes s l (λ n. kept_by c.bytes s vs n (is_variable_of c.bytes n) (value_at s (symbol_of c.bytes n)) refl
-    (is.names.keys (symbol_of c.bytes n) ∙ ap (λ ws. is_among ws (symbol_of c.bytes n)) (variables_are c.bytes l b refl)) (values_by c t l s kids b refl is plain n)))
+    (keys_among s vs (is.names.keys ∙ ap (map Var) (variables_are c.bytes l b refl)) (symbol_of c.bytes n)) (values_by c t l s kids b refl is plain n)))
 
 each_of_two : (A B R : Plain → Type 0) (xs : List Plain) → Each (λ x. A x → B x → R x) xs → Each A xs → Each B xs → Each R xs
 each_of_two A B R [] f a b = tt
@@ -144,17 +135,84 @@ pub from_kids : (P : Plain → Type 0) (kids : List Plain) → Each (λ x. Each 
 from_kids P [] e = tt
 from_kids P (x ∷ xs) e = subst (Each P) (sym (flat_map-cons steps_of x xs)) (each-append P (steps_of x) (flat_map steps_of xs) e.0 (from_kids P xs e.1))
 
+-- the mandatory variables are variables of the database
+same_varies : (bytes : List ℕ) (b : Bool) (n v : ℕ) → nat_eq n v ≡ b → is_variable_of bytes v ≡ true → (b ≡ false → is_variable_of bytes n ≡ true) → is_variable_of bytes n ≡ true
+same_varies bytes true n v e h later = subst (λ k. is_variable_of bytes k ≡ true) (sym (eqb-true n v e)) h
+same_varies bytes false n v e h later = later refl
+
+varies_by : (bytes : List ℕ) (b : Bool) (m : ℕ) (ms : List ℕ) (n : ℕ) → is_float (stated_at bytes m).kind ≡ b
+    → (list_any (λ v. n == v) (variables_of (statements_of bytes) ms) ≡ true → is_variable_of bytes n ≡ true)
+    → list_any (λ v. n == v) (variables_of (statements_of bytes) (m ∷ ms)) ≡ true → is_variable_of bytes n ≡ true
+unfolding variables_of
+varies_by bytes true m ms n e later is =
+    let f : IsFloat bytes m = is_formed_float bytes m e in
+    let v : ℕ = slice_index (stated_at bytes m).symbols 1 in
+    let vs : List ℕ = variables_of (statements_of bytes) ms in
+    let found = ap (λ o. list_any (λ w. n == w) (cons_option o vs)) (sym (float_varies (stated_at bytes m) e f.pair)) ∙ is in
+    same_varies bytes (n == v) n v refl f.variable (λ other. later (split_or (n == v) (list_any (λ w. n == w) vs) found other))
+varies_by bytes false m ms n e later is =
+    let vs : List ℕ = variables_of (statements_of bytes) ms in
+    later (ap (λ o. list_any (λ w. n == w) (cons_option o vs)) (sym (other_varies_by (stated_at bytes m).kind (stated_at bytes m).symbols e)) ∙ is)
+
+mandatory_vary : (bytes ms : List ℕ) (n : ℕ) → list_any (λ v. n == v) (variables_of (statements_of bytes) ms) ≡ true → is_variable_of bytes n ≡ true
+unfolding variables_of
+mandatory_vary bytes [] n is = absurd (false≢true is)
+mandatory_vary bytes (m ∷ ms) n is = varies_by bytes (is_float (stated_at bytes m).kind) m ms n refl (mandatory_vary bytes ms n) is
+
+keys_vary : (bytes : List ℕ) (l : ℕ) (b : Bool) (n : ℕ) → list_any (λ v. n == v) (variables_by bytes l b) ≡ true → is_variable_of bytes n ≡ true
+unfolding variables_by
+keys_vary bytes l true n is = absurd (false≢true is)
+keys_vary bytes l false n is = mandatory_vary bytes (stated_at bytes l).mandatory n is
+
+-- the value of a key
+key_plain : (s : Pairs) (vs : List ℕ) (k : WSym) (v : List WSym) → value_at s k ≡ Some v → is_among vs k ≡ true
+    → ((n : ℕ) → list_any (λ w. n == w) vs ≡ true → IsPlain (value_of s (Var n))) → IsPlain v
+key_plain s vs (Const n) v e found all = absurd (false≢true found)
+key_plain s vs (Work n) v e found all = absurd (false≢true found)
+key_plain s vs (Var n) v e found all = subst IsPlain (ap (or_itself (Var n)) e) (all n found)
+
+value_plain : (s : Pairs) (vs : List ℕ) (k : WSym) (o : Option (List WSym)) → value_at s k ≡ o → is_some o ≡ is_among vs k
+    → ((n : ℕ) → list_any (λ w. n == w) vs ≡ true → IsPlain (value_of s (Var n))) → IfSome o IsPlain
+value_plain s vs k None e keys all = tt
+value_plain s vs k (Some v) e keys all = key_plain s vs k v e (sym keys) all
+
+values_plain : (c : Setting) (t : List WSym) (l : ℕ) (s : Pairs) (kids : List Plain) → IsInstance c t l s (map target_of kids) → Each (λ x. IsPlain (target_of x)) kids
+    → (k : WSym) → IfSome (value_at s k) IsPlain
+values_plain c t l s kids is plain k =
+    let b : Bool = is_hypothesis (stated_at c.bytes l).kind in
+    let vs : List ℕ = variables_by c.bytes l b in
+    value_plain s vs k (value_at s k) refl (keys_among s vs (is.names.keys ∙ ap (map Var) (variables_are c.bytes l b refl)) k)
+    (λ n found. subst (λ x. IsPlain (value_of s x)) (ap (λ v. if v then Var n else Const n) (keys_vary c.bytes l b n found)) (values_by c t l s kids b refl is plain n found))
+
+each_always : (P : Plain → Type 0) → ((x : Plain) → P x) → (xs : List Plain) → Each P xs
+each_always P h [] = tt
+each_always P h (x ∷ xs) = (h x, each_always P h xs)
+
+step_plain : (c : Setting) (t : List WSym) (l : ℕ) (s : Pairs) (kids : List Plain) → IsSound c (known t l s kids) → IsComplete c.bytes (known t l s kids) → IsPlainStep c.bytes (known t l s kids)
+step_plain c t l s kids v d =
+    let vs = kids-sound c t l s kids v in
+    let ds = split (IsDone c.bytes) t l s kids d in
+    let below = each_of_two (IsSound c) (IsComplete c.bytes) (λ x. IsPlain (target_of x)) kids
+    (each_always (λ x. IsSound c x → IsComplete c.bytes x → IsPlain (target_of x)) (tree_plain c) kids) vs.0 ds.0 in
+    let source = settled c.bytes t l s kids ds.1 in
+    let plain = target_plain c t l s kids vs.1 source below in
+    record {
+      target = subst IsPlain (sym (target_of-known t l s kids)) plain;
+      source = subst (λ o. IfSome o IsPlain) (sym (source_of-known c.bytes t l s kids)) (subst IsPlain source plain);
+      values = subst (λ u. (k : WSym) → IfSome (value_at u k) IsPlain) (sym (sigma_of-known t l s kids)) (values_plain c t l s kids vs.1 below);
+    }
+
 -- and of each step of it
-pub steps_plain : (c : Setting) (x : Plain) → IsSound c x → IsComplete c.bytes x → Each (λ y. IsPlain (target_of y)) (steps_of x)
-steps_plain c = by_trees (λ x. IsSound c x → IsComplete c.bytes x → Each (λ y. IsPlain (target_of y)) (steps_of x))
+pub steps_plain : (c : Setting) (x : Plain) → IsSound c x → IsComplete c.bytes x → Each (IsPlainStep c.bytes) (steps_of x)
+steps_plain c = by_trees (λ x. IsSound c x → IsComplete c.bytes x → Each (IsPlainStep c.bytes) (steps_of x))
     (λ t v d. absurd (never_unknown c.bytes t d))
     (λ t l s kids h v d.
     let vs = kids-sound c t l s kids v in
     let ds = split (IsDone c.bytes) t l s kids d in
-    let below = each_of_two (IsSound c) (IsComplete c.bytes) (λ x. Each (λ y. IsPlain (target_of y)) (steps_of x)) kids h vs.0 ds.0 in
-    subst (Each (λ y. IsPlain (target_of y))) (sym (steps_of-known t l s kids))
-    (each-append (λ y. IsPlain (target_of y)) (flat_map steps_of kids) (known t l s kids ∷ []) (from_kids (λ y. IsPlain (target_of y)) kids below) (tree_plain c (known t l s kids) v d, tt)))
+    let below = each_of_two (IsSound c) (IsComplete c.bytes) (λ x. Each (IsPlainStep c.bytes) (steps_of x)) kids h vs.0 ds.0 in
+    subst (Each (IsPlainStep c.bytes)) (sym (steps_of-known t l s kids))
+    (each-append (IsPlainStep c.bytes) (flat_map steps_of kids) (known t l s kids ∷ []) (from_kids (IsPlainStep c.bytes) kids below) (step_plain c t l s kids v d, tt)))
 
 -- a valid and complete proof has none
-pub proof_plain : (bytes : List ℕ) (at : ℕ) (goal : List WSym) (p : Proof) → IsValid bytes at goal p → IsComplete bytes p.plain → Each (λ x. IsPlain (target_of x)) (steps_of p.plain)
+pub proof_plain : (bytes : List ℕ) (at : ℕ) (goal : List WSym) (p : Proof) → IsValid bytes at goal p → IsComplete bytes p.plain → Each (IsPlainStep bytes) (steps_of p.plain)
 proof_plain bytes at goal p v d = steps_plain (setting_of bytes at p) p.plain v.steps d

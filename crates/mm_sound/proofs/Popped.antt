@@ -18,6 +18,7 @@ use Rattle.mm_sound.proofs.Strings.{meaning}
 pub record IsFloat (bytes : List ℕ) (m : ℕ) : Type 0 where
   pub pair : (stated_at bytes m).symbols ≡ slice_index (stated_at bytes m).symbols 0 ∷ slice_index (stated_at bytes m).symbols 1 ∷ []
   pub typecode : is_variable_of bytes (slice_index (stated_at bytes m).symbols 0) ≡ false
+  pub variable : is_variable_of bytes (slice_index (stated_at bytes m).symbols 1) ≡ true
 
 two : (ss : List ℕ) → length ss ≡ 2 → ss ≡ slice_index ss 0 ∷ slice_index ss 1 ∷ []
 two [] h = absurd (omega arith)
@@ -34,7 +35,7 @@ float_kind kind.Theorem h = absurd (false≢true h)
 pub is_formed_float : (bytes : List ℕ) (m : ℕ) → is_float (stated_at bytes m).kind ≡ true → IsFloat bytes m
 is_formed_float bytes m h = elim (cases_lt m (length (labels_of bytes))) [
   | inl own ↦ let f = formed bytes m own in
-      record { pair = two (stated_at bytes m).symbols (f.pair (float_kind (stated_at bytes m).kind h)); typecode = f.typecode }
+      record { pair = two (stated_at bytes m).symbols (f.pair (float_kind (stated_at bytes m).kind h)); typecode = f.typecode; variable = f.variable (float_kind (stated_at bytes m).kind h) }
   | inr other ↦ absurd (false≢true (ap (λ s. is_float s.kind) (sym (no_other bytes m other)) ∙ h))
 ]
 

@@ -18,7 +18,8 @@ use Rattle.mm_plain.specs.declared.plain.Plain.{Plain}
 use Rattle.mm_plain.specs.Premises.{premises_of, variables_for}
 use Rattle.mm_plain.specs.Shape.{Each, Proof, known, unknown, steps_of, target_of}
 use Rattle.mm_plain.specs.Sources.{label_of, sigma_of}
-use Rattle.mm_plain.specs.Valid.{Setting, setting_of, is_among, IsInstance, IsSound, IsValid}
+use Rattle.mm_plain.specs.Valid.{Setting, setting_of, IsInstance, IsSound, IsValid}
+use Rattle.mm_plain.proofs.Keys.{is_among, keys_among}
 use Rattle.mm_plain.proofs.Equations.{by_trees, steps_of-unknown, steps_of-known, target_of-known}
 use Rattle.mm_plain.proofs.Kept.{kids-sound}
 use Rattle.mm_plain.proofs.Read.{label_of-known, label_of-unknown, sigma_of-known, is_pending-known}
@@ -137,17 +138,17 @@ module _ (c : Setting) (groups : List (List ℕ)) (t : List WSym) (l : ℕ) (s :
 
   free_of : (b : Bool) → is_hypothesis (stated_at c.bytes l).kind ≡ b → (n : ℕ) → list_any (λ v. n == v) (variables_by c.bytes l b) ≡ false → value_at s (symbol_of c.bytes n) ≡ None
   free_of b e n h = no_value c.bytes (variables_by c.bytes l b) s
-      (λ x. step.is.names.keys x ∙ ap (λ vs. is_among vs x) (variables_are c.bytes l b e)) n (λ _. h)
+      (keys_among s (variables_by c.bytes l b) (step.is.names.keys ∙ ap (map Var) (variables_are c.bytes l b e))) n (λ _. h)
 
   constant : (n : ℕ) → is_variable_of c.bytes n ≡ false → meaning c.bytes s n ≡ n ∷ []
-  constant n off = itself c.bytes s n (no_value c.bytes (variables_for c.bytes l) s step.is.names.keys n (λ on. absurd (true≢false (sym on ∙ off))))
+  constant n off = itself c.bytes s n (no_value c.bytes (variables_for c.bytes l) s (keys_among s (variables_for c.bytes l) step.is.names.keys) n (λ on. absurd (true≢false (sym on ∙ off))))
 
   same_target : numbers t ≡ entry_for c.bytes s l
   same_target = ap numbers step.source ∙ numbers-applied c.bytes s l
 
   no_keys : is_hypothesis (stated_at c.bytes l).kind ≡ true → (x : WSym) → value_at s x ≡ None
   unfolding variables_by
-  no_keys e x = none_there (value_at s x) (step.is.names.keys x ∙ ap (λ vs. is_among vs x) (variables_are c.bytes l true e) ∙ among_none x)
+  no_keys e x = none_there (value_at s x) (keys_among s [] (step.is.names.keys ∙ ap (map Var) (variables_are c.bytes l true e)) x ∙ among_none x)
     where
       among_none : (y : WSym) → is_among [] y ≡ false
       among_none (Const n) = refl

@@ -1,6 +1,6 @@
 -- Strings of symbols as the machine's lists of numbers.
 use Rattle.std.proofs.Common.{◌≡◌, ◌≤◌, ℕ, Bool, true, false, ◌&&◌, ◌==◌, List, [], ◌∷◌, ◌++◌, map, length, Option, None, Some, is_some, refl, ap, ◌∙◌, arith, length-append, append-nil, if◌then◌else◌}
-use Rattle.std.proofs.lemmas.Bool.{true≢false, false≢true}
+use Rattle.std.proofs.lemmas.Bool.{true≢false, false≢true, and_parts}
 use Rattle.std.proofs.lemmas.Grind.{flat_map-append}
 use Rattle.std.specs.Cmp.Lexicographic.{pointwise}
 use Rattle.std.specs.List.{flat_map, list_any}
@@ -12,7 +12,7 @@ use Rattle.mm_subst.specs.declared.symbol.WSym.{WSym}
 use Rattle.mm_subst.specs.declared.symbol.WSym.TheVariants.{Const, Var, Work}
 use Rattle.mm_subst.proofs.Keys.{is_same-true}
 use Rattle.mm_stack.specs.Substitution.{instance}
-use Rattle.mm_plain.specs.Valid.{is_among}
+use Rattle.mm_plain.proofs.Keys.{is_among}
 use Rattle.mm_sound.specs.Numbers.{number_in, numbers}
 
 -- what stands for a symbol of the database under a substitution, by number
@@ -77,15 +77,11 @@ unfolding applied
 unchanged sigma none [] = refl
 unchanged sigma none (x ∷ xs) = ap (λ o. or_itself x o ++ flat_map (value_of sigma) xs) (none x) ∙ ap (λ ys. x ∷ ys) (unchanged sigma none xs)
 
-both : (a b : Bool) → (a && b) ≡ true → (a ≡ true) × (b ≡ true)
-both true b h = (refl, h)
-both false b h = absurd (false≢true h)
-
 -- the test tells strings apart
 pub same_string : (s t : List WSym) → pointwise is_same s t ≡ true → s ≡ t
 same_string [] [] h = refl
 same_string [] (y ∷ ys) h = absurd (false≢true h)
 same_string (x ∷ xs) [] h = absurd (false≢true h)
 same_string (x ∷ xs) (y ∷ ys) h =
-    let b = both (is_same x y) (pointwise is_same xs ys) h in
+    let b = and_parts (is_same x y) (pointwise is_same xs ys) h in
     ap (λ z. z ∷ xs) (is_same-true x y b.0) ∙ ap (λ zs. y ∷ zs) (same_string xs ys b.1)

@@ -1,11 +1,14 @@
 -- Complete proofs, and the steps that they spell.
-use Rattle.std.specs.Prelude.{◌≡◌, ℕ, Bool, true, false, List, map, Option, None, Some, is_some, is_none, if◌then◌else◌}
+use Rattle.std.specs.Prelude.{◌≡◌, ℕ, Bool, true, false, List, map, Option, None, Some, is_some, is_none, IfSome, if◌then◌else◌}
 use Rattle.std.specs.List.{list_any}
 use Rattle.mm_scope.specs.Contents.{stated_at}
 use Rattle.mm_stated.specs.Stated.{is_hypothesis}
 use Rattle.mm_plain.specs.declared.plain.Plain.{Plain}
-use Rattle.mm_plain.specs.Shape.{Each, steps_of}
-use Rattle.mm_plain.specs.Sources.{label_of, is_pending}
+use Rattle.mm_subst.specs.Substitutions.{value_at}
+use Rattle.mm_subst.specs.Symbols.{has_work}
+use Rattle.mm_subst.specs.declared.symbol.WSym.{WSym}
+use Rattle.mm_plain.specs.Shape.{Each, steps_of, target_of}
+use Rattle.mm_plain.specs.Sources.{label_of, source_of, sigma_of, is_pending}
 use Rattle.mm_stack.specs.declared.step.Step.{Step}
 use Rattle.mm_stack.specs.declared.step.Step.TheVariants.{Hyp, Apply, Unknown}
 
@@ -17,6 +20,16 @@ pub record IsDone (bytes : List ℕ) (x : Plain) : Type 0 where
 -- each step is known, and none is pending
 abbrev pub IsComplete : List ℕ → Plain → Type 0
 IsComplete bytes x = Each (IsDone bytes) (steps_of x)
+
+-- a string without work variables
+abbrev pub IsPlain : List WSym → Type 0
+IsPlain s = has_work s ≡ false
+
+-- no string of a step has a work variable: its target, its source, and each value of its substitution
+pub record IsPlainStep (bytes : List ℕ) (x : Plain) : Type 0 where
+  pub target : IsPlain (target_of x)
+  pub source : IfSome (source_of bytes x) IsPlain
+  pub values : (key : WSym) → IfSome (value_at (sigma_of x) key) IsPlain
 
 -- no step is pending
 abbrev pub IsSettled : List ℕ → Plain → Type 0

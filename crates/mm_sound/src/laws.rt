@@ -4,9 +4,8 @@ ghost use Rattle.std.specs.Prelude.{◌≡◌, ◌<◌, ℕ, true, false, List, 
 ghost use Rattle.mm_scope.specs.Contents.{is_read, labels_of, stated_at, distinct_at};
 ghost use Rattle.mm_stated.specs.declared.statement.Kind.TheVariants.{Theorem};
 ghost use Rattle.mm_subst.specs.Statements.{statement_of};
-ghost use Rattle.mm_subst.specs.Symbols.{has_work};
 ghost use Rattle.mm_subst.specs.declared.symbol.WSym.{WSym};
-ghost use Rattle.mm_plain.specs.Shape.{Each, Proof, steps_of, target_of};
+ghost use Rattle.mm_plain.specs.Shape.{Each, Proof, steps_of};
 ghost use Rattle.mm_plain.specs.Valid.{IsValid};
 ghost use Rattle.mm_stack.specs.Running.{run};
 ghost use Rattle.mm_stack.specs.Decoding.{decoded, proof_of};
@@ -16,7 +15,7 @@ ghost use Rattle.mm_stack.specs.declared.outcome.Verdict.TheVariants.{Accepted, 
 ghost use Rattle.mm_stack.specs.declared.step.Step.{Step};
 ghost use Rattle.mm_plain.specs.Labels.{label_at};
 ghost use Rattle.mm_sound.specs.Apart.{IsApart};
-ghost use Rattle.mm_sound.specs.Complete.{IsComplete, IsSettled, has_unknown, spelled};
+ghost use Rattle.mm_sound.specs.Complete.{IsComplete, IsPlainStep, IsSettled, has_unknown, spelled};
 ghost use Rattle.mm_sound.specs.Numbers.{numbers};
 ghost use Rattle.mm_sound.specs.Proves.{Proves};
 ghost use Rattle.mm_sound.specs.Written.{texts_in, written};
@@ -55,9 +54,10 @@ pub fn written_proofs_are_accepted(bytes: &[u8])
     let _ = bytes;
 }
 
-/// No step of a valid and complete proof has a work variable.
+/// No step of a valid and complete proof has a work variable: neither its target, nor its source, nor a value of its
+/// substitution.
 pub fn complete_proofs_have_no_work_variables(bytes: &[u8])
-    ensures { (at : ℕ) (goal : List WSym) (p : Proof) → IsValid bytes.now at goal p → IsComplete bytes.now p.plain → Each (λ x. has_work (target_of x) ≡ false) (steps_of p.plain) }
+    ensures { (at : ℕ) (goal : List WSym) (p : Proof) → IsValid bytes.now at goal p → IsComplete bytes.now p.plain → Each (IsPlainStep bytes.now) (steps_of p.plain) }
 {
     let _ = bytes;
 }

@@ -14,7 +14,7 @@ use Rattle.mm_scope.specs.Looks.{look_back}
 use Rattle.mm_stated.specs.Mandatory.{statement_at}
 use Rattle.mm_scope.specs.Reading.{text_of, after, step, read_from, with_comment, without_comment}
 use Rattle.mm_stated.specs.Stated.{Stated}
-use Rattle.mm_scope.specs.Steps.{Answers, unless, symbol_checks, take_symbol, is_full, a_label, a_constant, a_variable, a_float, a_symbol, a_distinct, at_text, at_end, at_proof, unlabelled, at_constants, labelled, at_open, at_close, step_by}
+use Rattle.mm_scope.specs.Steps.{most_label, Answers, unless, symbol_checks, take_symbol, is_full, a_label, a_constant, a_variable, a_float, a_symbol, a_distinct, at_text, at_end, at_proof, unlabelled, at_constants, labelled, at_open, at_close, step_by}
 use Rattle.mm_scope.specs.declared.fault.ReadFault.{ReadFault}
 use Rattle.mm_scope.specs.declared.mode.Mode.{Mode}
 use Rattle.mm_scope.specs.declared.mode.Mode.TheVariants as mode
@@ -128,7 +128,7 @@ module _ (low high : ℕ) (up : low ≤ high) where
   label_tells s a t p g =
       fine_if (is_bad_label t) _ _ Next tt
       (fine_if (a.label || a.known) _ _ Next tt
-      (fine_if (nat_lt 255 (length t)) _ _ Next tt
+      (fine_if (nat_lt most_label (length t)) _ _ Next tt
       (next s.context mode.Labelled s.proof s.comment (raised s g) (ends_up s g) (between_up (last_end s.context) low high up s.comment g.noted))))
 
   constant_tells : (s : Reading) (a : Answers) (t : List ℕ) (p : ℕ) → s.mode ≡ mode.Constants → Tells low s → IfFine (a_constant put s a t p) Next

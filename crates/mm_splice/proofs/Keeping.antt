@@ -14,6 +14,7 @@ use Rattle.mm_stated.specs.declared.statement.Kind.TheVariants as kind
 use Rattle.mm_scope.proofs.ContentsLemmas.{is_read-length}
 use Rattle.mm_tokens.specs.Folding.{folded, holds}
 use Rattle.mm_scope.specs.Description.{inside, description_of, says, usage_phrase, change_phrase}
+use Rattle.mm_scope.specs.Judged.{most_bytes}
 use Rattle.mm_tokens.specs.declared.pieces.Span.{Span}
 use Rattle.std.specs.Option.{option_map}
 use Rattle.mm_splice.proofs.Describing.{AreDescribed, Between, StandsClear, whole_described, described_all, stands_clear}
@@ -49,7 +50,7 @@ says_by bytes None phrase = refl
 says_by bytes (Some s) phrase = refl
 
 module _ (bytes : List ℕ) (id : ℕ) (text : List ℕ) (read : is_read bytes ≡ true) (theorem : (stated_at bytes id).kind ≡ kind.Theorem)
-    (good : is_proof_text text ≡ true) (room : length (spliced bytes id text) ≤ 134217728) where
+    (good : is_proof_text text ≡ true) (room : length (spliced bytes id text) ≤ most_bytes) where
   abbrev from : ℕ
   from = (stated_at bytes id).from
 

@@ -12,7 +12,7 @@ use Rattle.mm_tokens.specs.declared.word.Word.TheVariants as word
 use Rattle.mm_scope.specs.Events.{Event, put, constant, variable, float, essential, asserted, theorem, distinct, opened, closed}
 use Rattle.mm_scope.specs.Looks.{look_back}
 use Rattle.mm_scope.specs.Reading.{text_of, after, step, read_from, with_comment, without_comment}
-use Rattle.mm_scope.specs.Steps.{Answers, unless, symbol_checks, take_symbol, is_full, a_label, a_constant, a_variable, a_float, a_symbol, a_distinct, at_text, at_end, at_proof, unlabelled, at_constants, labelled, at_open, at_close, step_by}
+use Rattle.mm_scope.specs.Steps.{most_label, Answers, unless, symbol_checks, take_symbol, is_full, a_label, a_constant, a_variable, a_float, a_symbol, a_distinct, at_text, at_end, at_proof, unlabelled, at_constants, labelled, at_open, at_close, step_by}
 use Rattle.mm_scope.specs.declared.fault.ReadFault.{ReadFault}
 use Rattle.mm_scope.specs.declared.mode.Mode.{Mode}
 use Rattle.mm_scope.specs.declared.mode.Mode.TheVariants as mode
@@ -163,7 +163,7 @@ module _ (bytes : List ℕ) where
     label_follows s a t p g =
         fine_if (is_bad_label t) _ _ Next tt
         (fine_if (a.label || a.known) _ _ Next tt
-        (fine_if (nat_lt 255 (length t)) _ _ Next tt
+        (fine_if (nat_lt most_label (length t)) _ _ Next tt
         (record { proofs = raised s.context g.proofs; begun = tt })))
 
     constant_follows : (s : Reading) (a : Answers) (t : List ℕ) (p : ℕ) → Idle s → Follows pieces s → IfFine (a_constant put s a t p) Next

@@ -1,5 +1,5 @@
 -- A database whose proof is replaced is read, and says the same with each place moved.
-use Rattle.std.proofs.Common.{◌≡◌, ℕ, ◌≤◌, false, List, [], ◌∷◌, ◌++◌, map, Option, None, Some, length, position, Result, Ok, Err, refl, sym, ◌∙◌, ap, subst, arith}
+use Rattle.std.proofs.Common.{◌+◌, ◌≡◌, ℕ, ◌≤◌, false, List, [], ◌∷◌, ◌++◌, map, Option, None, Some, length, position, Result, Ok, Err, refl, sym, ◌∙◌, ap, subst, arith}
 use Rattle.std.proofs.lemmas.List.{append_assoc, take_all}
 use Rattle.mm_tokens.specs.Bytes.{is_bad}
 use Rattle.mm_tokens.specs.Pieces.{pieces_of, open_in}
@@ -11,7 +11,7 @@ use Rattle.mm_tokens.specs.Words.{word_of}
 use Rattle.mm_tokens.specs.declared.word.Word.TheVariants as word
 use Rattle.mm_scope.specs.Databases.{database_of, read_by, at_the_end, at_end_of_file, unless_open, unless_begun, nothing_read}
 use Rattle.mm_scope.specs.Events.{Event, open_blocks}
-use Rattle.mm_scope.specs.Judged.{is_long, judged, before_bad}
+use Rattle.mm_scope.specs.Judged.{most_bytes, is_long, judged, before_bad}
 use Rattle.mm_scope.specs.Reading.{after, text_of}
 use Rattle.mm_scope.specs.declared.fault.ReadFault.{ReadFault}
 use Rattle.mm_scope.specs.declared.mode.Mode.{Mode}
@@ -111,13 +111,13 @@ abbrev read_as : List ℕ → Option ℕ → Result (List Event) ReadFault
 read_as bytes bad =
     after (reading (before_bad bytes bad) nothing_read (pieces_of (before_bad bytes bad))) (λ s. at_the_end s bad false (open_in (pieces_of (before_bad bytes bad))))
 
-short_taken : (bytes : List ℕ) → length bytes ≤ 134217728 → judged bytes ≡ bytes
-short_taken bytes h = take_all 134217729 bytes (omega (arith, h))
+short_taken : (bytes : List ℕ) → length bytes ≤ most_bytes → judged bytes ≡ bytes
+short_taken bytes h = take_all (most_bytes + 1) bytes (omega (arith, h))
 
-not_long : (bytes : List ℕ) → length bytes ≤ 134217728 → is_long bytes ≡ false
+not_long : (bytes : List ℕ) → length bytes ≤ most_bytes → is_long bytes ≡ false
 not_long bytes h = grind (arith, h)
 
-short_read : (bytes : List ℕ) → length bytes ≤ 134217728 → database_of bytes ≡ read_as bytes (position is_bad bytes)
+short_read : (bytes : List ℕ) → length bytes ≤ most_bytes → database_of bytes ≡ read_as bytes (position is_bad bytes)
 unfolding database_of
 short_read bytes h = ap (λ b. read_by b (is_long bytes)) (short_taken bytes h) ∙ ap (read_by bytes) (not_long bytes h)
 
@@ -135,10 +135,10 @@ whole_by : (bytes : List ℕ) (past : List Event) (bad : Option ℕ) → positio
 whole_by bytes past None clean h = whole_end bytes past clean (reading bytes nothing_read (pieces_of bytes)) (open_in (pieces_of bytes)) refl refl h
 whole_by bytes past (Some p) clean h = absurd (refused_bad (reading (before_bad bytes (Some p)) nothing_read (pieces_of (before_bad bytes (Some p)))) p (open_in (pieces_of (before_bad bytes (Some p)))) past h)
 
-pub whole_of : (bytes : List ℕ) (past : List Event) → length bytes ≤ 134217728 → database_of bytes ≡ Ok past → IsWhole bytes past
+pub whole_of : (bytes : List ℕ) (past : List Event) → length bytes ≤ most_bytes → database_of bytes ≡ Ok past → IsWhole bytes past
 whole_of bytes past h e = whole_by bytes past (position is_bad bytes) refl (sym (short_read bytes h) ∙ e)
 
-pub read_whole : (bytes : List ℕ) (past : List Event) → length bytes ≤ 134217728 → IsWhole bytes past → database_of bytes ≡ Ok past
+pub read_whole : (bytes : List ℕ) (past : List Event) → length bytes ≤ most_bytes → IsWhole bytes past → database_of bytes ≡ Ok past
 read_whole bytes past h w =
     short_read bytes h
     ∙ ap (read_as bytes) w.clean
@@ -171,7 +171,7 @@ end_moved : (f : ℕ → ℕ) (s : Reading) (past : List Event) → at_end_of_fi
 end_moved f s past h = ap (unless_open (move_state f s)) (blocks_moved f s.context) ∙ open_moved f s past (open_blocks s.context) h
 
 -- so the whole database says the same
-pub database_replaced : (bytes : List ℕ) (past : List Event) (from to : ℕ) (text : List ℕ) → length bytes ≤ 134217728 → length (put_between bytes from to text) ≤ 134217728
+pub database_replaced : (bytes : List ℕ) (past : List Event) (from to : ℕ) (text : List ℕ) → length bytes ≤ most_bytes → length (put_between bytes from to text) ≤ most_bytes
     → database_of bytes ≡ Ok past → IsProof bytes (pieces_of bytes) from to → IsText text
     → database_of (put_between bytes from to text) ≡ Ok (map (move_event (moved_by from to (length text))) past)
 database_replaced bytes past from to text small room read is good =

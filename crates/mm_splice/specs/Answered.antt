@@ -1,5 +1,6 @@
 -- What replacing a proof answers.
 use Rattle.std.specs.Prelude.{◌≡◌, ◌≤◌, ◌<◌, ℕ, List, Result, Ok, Err, length}
+use Rattle.mm_scope.specs.Judged.{most_bytes}
 use Rattle.mm_scope.specs.declared.database.Database.{Database}
 use Rattle.mm_splice.specs.Judging.{JudgesTheRest}
 use Rattle.mm_splice.specs.Keeping.{KeepsTheRest}
@@ -11,5 +12,5 @@ use Rattle.mm_splice.specs.declared.fault.SpliceFault.TheVariants.{TooLong, Memo
 -- fault is that these bytes are too many, unless memory ran out.
 abbrev pub AnswersSplice : List ℕ → ℕ → List ℕ → Result Database SpliceFault → Type 0
 AnswersSplice bytes id text (Ok d) = (d ≡ spliced bytes id text) × KeepsTheRest bytes id text × JudgesTheRest bytes id text
-AnswersSplice bytes id text (Err TooLong) = 134217728 < length (spliced bytes id text)
-AnswersSplice bytes id text (Err Memory) = length (spliced bytes id text) ≤ 134217728
+AnswersSplice bytes id text (Err TooLong) = most_bytes < length (spliced bytes id text)
+AnswersSplice bytes id text (Err Memory) = length (spliced bytes id text) ≤ most_bytes

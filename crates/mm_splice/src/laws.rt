@@ -2,6 +2,7 @@
 
 ghost use Rattle.std.specs.Prelude.{◌≡◌, ◌≢◌, ◌≤◌, ℕ, true, List, [], ◌∷◌, ◌++◌, Option, length};
 ghost use Rattle.mm_scope.specs.Contents.{is_read, stated_at};
+ghost use Rattle.mm_scope.specs.Judged.{most_bytes};
 ghost use Rattle.mm_stated.specs.declared.statement.Kind.TheVariants.{Theorem};
 ghost use Rattle.mm_splice.specs.Agreeing.{AgreesWith, JudgesAs, CanBeMade, CanAllBeMade, after_save, after_saves};
 ghost use Rattle.mm_splice.specs.Judging.{JudgesTheRest};
@@ -19,7 +20,7 @@ pub fn splicing_keeps(bytes: &[u8], id: StmtId, text: &[u8])
     requires read { is_read bytes.now ≡ true }
     requires theorem { (stated_at bytes.now id.0).kind ≡ Theorem }
     requires text { is_proof_text text.now ≡ true }
-    requires room { length (spliced bytes.now id.0 text.now) ≤ 134217728 }
+    requires room { length (spliced bytes.now id.0 text.now) ≤ most_bytes }
     ensures { KeepsTheRest bytes.now id.0 text.now }
 {
     let _ = bytes;
@@ -33,7 +34,7 @@ pub fn splicing_keeps_verdicts(bytes: &[u8], id: StmtId, text: &[u8])
     requires read { is_read bytes.now ≡ true }
     requires theorem { (stated_at bytes.now id.0).kind ≡ Theorem }
     requires text { is_proof_text text.now ≡ true }
-    requires room { length (spliced bytes.now id.0 text.now) ≤ 134217728 }
+    requires room { length (spliced bytes.now id.0 text.now) ≤ most_bytes }
     ensures { JudgesTheRest bytes.now id.0 text.now }
 {
     let _ = bytes;

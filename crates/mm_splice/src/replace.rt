@@ -7,12 +7,9 @@ ghost use Rattle.mm_splice.specs.Answered.{AnswersSplice};
 ghost use Rattle.mm_splice.specs.Splicing.{put_between, spliced, is_proof_text};
 
 use crate::fault::SpliceFault;
-use mm_scope::{Database, ReadFault, StmtId};
+use mm_scope::{Database, MOST_BYTES, ReadFault, StmtId};
 use mm_tokens::Span;
 use std::alloc::{AllocError, Global};
-
-/// The longest database, in bytes.
-const MOST_BYTES: u64 = 134_217_728;
 
 /// The place of a theorem's proof.
 fn place(db: &Database, id: StmtId) -> Span
@@ -62,7 +59,7 @@ fn want_of_memory(fault: ReadFault) -> SpliceFault
 /// The database with a text in place of the proof of a theorem. All of it is read anew, in the time that reading takes.
 ///
 /// # Errors
-/// `TooLong` exactly where it would have more than 134,217,728 bytes, and want of memory.
+/// `TooLong` exactly where it would have more than `MOST_BYTES` bytes, and want of memory.
 pub fn splice(
     alloc: Global,
     db: &Database,
@@ -77,7 +74,7 @@ pub fn splice(
     let old = db.bytes();
     let span = place(db, id);
     let kept = old.len() as u64 - (span.end - span.start);
-    if kept + text.len() as u64 > MOST_BYTES {
+    if kept + text.len() as u64 > MOST_BYTES as u64 {
         return Err(SpliceFault::TooLong);
     }
     let bytes = put_between(alloc, old, span.start as usize, span.end as usize, text)?;

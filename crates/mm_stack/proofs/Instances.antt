@@ -5,6 +5,7 @@ use Rattle.std.specs.Bool.{Decides}
 use Rattle.std.proofs.lemmas.Slice.Eq.{bytes_eq-Decides}
 use Rattle.std.proofs.lemmas.List.{take_more, drop_more, append-nil, append_assoc, take-append-drop}
 use Rattle.mm_stack.specs.Substitution.{instance}
+use Rattle.mm_scope.specs.Steps.{most_symbols}
 
 pub instance-append : (value : ℕ → List ℕ) (xs ys : List ℕ) → instance value (xs ++ ys) ≡ instance value xs ++ instance value ys
 instance-append value [] ys = refl
@@ -23,12 +24,12 @@ length-instance value xs i =
     sym (length-append (instance value (take i xs)) (instance value (drop i xs)))
     ∙ ap length (sym (instance-append value (take i xs) (drop i xs)) ∙ ap (instance value) (take-append-drop i xs))
 
-over : (n : ℕ) → 32768 < n → false ≡ not (nat_lt 32768 n)
+over : (n : ℕ) → most_symbols < n → false ≡ not (nat_lt most_symbols n)
 over n h = grind arith
 
 -- where the symbols so far and one more give too much, all of them do
-pub too_long : (value : ℕ → List ℕ) (xs : List ℕ) (i : ℕ) → i < length xs → 32768 < length (instance value (take i xs)) + length (value (get_or xs i 0))
-    → false ≡ not (nat_lt 32768 (length (instance value xs)))
+pub too_long : (value : ℕ → List ℕ) (xs : List ℕ) (i : ℕ) → i < length xs → most_symbols < length (instance value (take i xs)) + length (value (get_or xs i 0))
+    → false ≡ not (nat_lt most_symbols (length (instance value xs)))
 too_long value xs i h big =
     over (length (instance value xs)) (omega (arith, length-instance value xs (i + 1), ap length (instance_more value xs i h), length-append (instance value (take i xs)) (value (get_or xs i 0))))
 

@@ -4,5 +4,6 @@ pub mod Instances
 pub mod Assertions
 pub mod RunLemmas
 pub mod Spelling
+pub mod Kept
 pub mod Substituting
 mod Firsts

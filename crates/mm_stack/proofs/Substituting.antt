@@ -4,7 +4,7 @@ use Rattle.std.specs.Prelude.{slice_index}
 use Rattle.std.specs.List.{list_any, list_all}
 use Rattle.std.specs.Str.{bytes_eq}
 use Rattle.std.proofs.lemmas.List.{append-nil, take-append-drop}
-use Rattle.std.proofs.lemmas.Bool.{true≢false, false≢true, eqb-true, eqb-false, ne_eqb}
+use Rattle.std.proofs.lemmas.Bool.{true≢false, false≢true, eqb-true, eqb-false, ne_eqb, and_parts, or_parts}
 use Rattle.std.proofs.lemmas.Slice.Eq.{bytes_eq-Decides}
 use Rattle.mm_stated.specs.Stated.{Stated}
 use Rattle.mm_scope.specs.Contents.{stated_at}
@@ -12,16 +12,9 @@ use Rattle.mm_stack.specs.Substitution.{Binding, value_of, instance}
 use Rattle.mm_stack.specs.Running.{Argument, arguments, is_float, begins_with, has_typecode, substitution_of, is_instance}
 use Rattle.mm_stack.specs.Running.{unless, applied, popped, values_at, kept, conclusion_at, most_symbols, violations_at}
 use Rattle.mm_stack.specs.declared.outcome.StackFault.{StackFault}
+use Rattle.mm_stack.proofs.Kept.{pairs_kept}
 use Rattle.mm_stack.specs.Laws.{variables_of, IsApart, AreApart, hypotheses_of, Substitutes}
 use Rattle.mm_stack.specs.declared.outcome.Verdict.{Verdict}
-
-both : (a b : Bool) → (a && b) ≡ true → (a ≡ true) × (b ≡ true)
-both true b h = (refl, h)
-both false b h = absurd (cc)
-
-neither : (a b : Bool) → (a || b) ≡ false → (a ≡ false) × (b ≡ false)
-neither false b h = (refl, h)
-neither true b h = absurd (cc)
 
 abbrev pub hypotheses_in : List Argument → List Stated
 hypotheses_in args = map (λ a. a.hypothesis) args
@@ -54,11 +47,11 @@ IsNone s args = list_any (λ v. s == v) (variables_of (hypotheses_in args)) ≡ 
 
 none_first : (a : Argument) (rest : List Argument) (s : ℕ) → is_float a.hypothesis.kind ≡ true → IsNone s (a ∷ rest) → (s == variable_of a) ≡ false
 none_first a rest s e h =
-    (neither (s == variable_of a) (list_any (λ v. s == v) (variables_of (hypotheses_in rest))) (ap (list_any (λ v. s == v)) (sym (float_varies a rest e)) ∙ h)).0
+    (or_parts (s == variable_of a) (list_any (λ v. s == v) (variables_of (hypotheses_in rest))) (ap (list_any (λ v. s == v)) (sym (float_varies a rest e)) ∙ h)).0
 
 none_rest_by : (f : Bool) (a : Argument) (rest : List Argument) (s : ℕ) → is_float a.hypothesis.kind ≡ f → IsNone s (a ∷ rest) → IsNone s rest
 none_rest_by true a rest s e h =
-    (neither (s == variable_of a) (list_any (λ v. s == v) (variables_of (hypotheses_in rest))) (ap (list_any (λ v. s == v)) (sym (float_varies a rest e)) ∙ h)).1
+    (or_parts (s == variable_of a) (list_any (λ v. s == v) (variables_of (hypotheses_in rest))) (ap (list_any (λ v. s == v)) (sym (float_varies a rest e)) ∙ h)).1
 none_rest_by false a rest s e h = ap (list_any (λ v. s == v)) (sym (other_varies a rest e)) ∙ h
 
 none_rest : (a : Argument) (rest : List Argument) (s : ℕ) → IsNone s (a ∷ rest) → IsNone s rest
@@ -148,8 +141,8 @@ are_entries : (vs : List ℕ) (value : ℕ → List ℕ) (args : List Argument) 
     → list_all has_typecode args ≡ true → list_all (is_instance value) args ≡ true → map (λ h. instance value h.symbols) (hypotheses_in args) ≡ entries_in args
 are_entries vs value [] apart g typed agree = refl
 are_entries vs value (a ∷ rest) apart g typed agree =
-    let t = both (has_typecode a) (list_all has_typecode rest) typed in
-    let i = both (is_instance value a) (list_all (is_instance value) rest) agree in
+    let t = and_parts (has_typecode a) (list_all has_typecode rest) typed in
+    let i = and_parts (is_instance value a) (list_all (is_instance value) rest) agree in
     ap (λ x. x ∷ map (λ h. instance value h.symbols) (hypotheses_in rest)) (is_entry_by (is_float a.hypothesis.kind) vs (hypotheses_in rest) value a refl apart.0 g.0 t.0 i.0)
     ∙ ap (λ xs. a.entry ∷ xs) (are_entries vs value rest apart.1 g.1 t.1 i.1)
 
@@ -170,9 +163,20 @@ unless_ok true o r x h = absurd (cc)
 unless_ok false o r x h = (refl, h)
 
 no_violation : {A : Type 0} (fs : List StackFault) (cs : List (Bool × StackFault)) (r : Result A Verdict) (x : A)
-    → unless (map (λ g. (true, g)) fs ++ cs) r ≡ Ok x → unless cs r ≡ Ok x
-no_violation [] cs r x h = h
+    → unless (map (λ g. (true, g)) fs ++ cs) r ≡ Ok x → (fs ≡ []) × (unless cs r ≡ Ok x)
+no_violation [] cs r x h = (refl, h)
 no_violation (g ∷ gs) cs r x h = absurd (cc)
+
+-- the keys are the variables of the `$f`, in order
+keys_by : (f : Bool) (a : Argument) (rest : List Argument) → is_float a.hypothesis.kind ≡ f → map (λ b. b.variable) (substitution_of rest) ≡ variables_of (hypotheses_in rest)
+    → map (λ b. b.variable) (substitution_of (a ∷ rest)) ≡ variables_of (hypotheses_in (a ∷ rest))
+keys_by true a rest e later =
+    ap (map (λ b. b.variable)) (float_binds a rest e) ∙ ap (λ vs. variable_of a ∷ vs) later ∙ sym (float_varies a rest e)
+keys_by false a rest e later = ap (map (λ b. b.variable)) (other_binds a rest e) ∙ later ∙ sym (other_varies a rest e)
+
+keys_are : (args : List Argument) → map (λ b. b.variable) (substitution_of args) ≡ variables_of (hypotheses_in args)
+keys_are [] = refl
+keys_are (a ∷ rest) = keys_by (is_float a.hypothesis.kind) a rest refl (keys_are rest)
 
 not_false : (b : Bool) → not b ≡ false → b ≡ true
 not_false true h = refl
@@ -183,7 +187,7 @@ room_for n m h = grind arith
 
 -- where an assertion pushes an entry, one substitution does all
 pub applied_substitutes : (bytes : List ℕ) (groups : List (List ℕ)) (a : Stated) (stack next : List (List ℕ)) (k : ℕ) → AreApart (variables_of (hypotheses_of bytes a)) (hypotheses_of bytes a)
-    → applied bytes groups a stack k ≡ Ok next → Substitutes bytes a stack next
+    → applied bytes groups a stack k ≡ Ok next → Substitutes bytes groups a stack next
 unfolding applied
 applied_substitutes bytes groups a stack next k apart h =
     let args = popped bytes a stack in
@@ -191,7 +195,8 @@ applied_substitutes bytes groups a stack next k apart h =
     let first = unless_ok (nat_lt (length stack) (length a.mandatory)) _ _ next h in
     let second = unless_ok (not (list_all has_typecode args)) _ _ next first.1 in
     let third = unless_ok (not (list_all (is_instance value) args)) _ _ next second.1 in
-    let fourth = unless_ok (nat_lt most_symbols (length (conclusion_at bytes a stack))) _ _ next (no_violation (violations_at bytes groups a stack k) _ _ next third.1) in
+    let apart_there = no_violation (violations_at bytes groups a stack k) _ _ next third.1 in
+    let fourth = unless_ok (nat_lt most_symbols (length (conclusion_at bytes a stack))) _ _ next apart_there.1 in
     let room = room_for (length stack) (length a.mandatory) first.0 in
     let many : length a.mandatory ≡ length (drop (kept a stack) stack) = omega (arith, length-drop (kept a stack) stack) in
     let hypotheses = hypotheses_are bytes a.mandatory (drop (kept a stack) stack) many in
@@ -202,8 +207,11 @@ applied_substitutes bytes groups a stack next k apart h =
     let entries = are_entries (variables_of (hypotheses_of bytes a)) value args apart_in floats (not_false (list_all has_typecode args) second.0) (not_false (list_all (is_instance value) args) third.0) in
     record {
       sigma = substitution_of args;
+      keys = keys_are args ∙ ap variables_of hypotheses;
+      own = refl;
       left = take (kept a stack) stack;
       before = sym (take-append-drop (kept a stack) stack) ∙ ap (λ es. take (kept a stack) stack ++ es)
           (sym (entries_are bytes a.mandatory (drop (kept a stack) stack) many) ∙ sym entries ∙ ap (map (λ h. instance value h.symbols)) hypotheses);
       after = cc;
+      distinct = pairs_kept bytes groups k value a.pairs apart_there.0;
     }

@@ -5,6 +5,7 @@ use Rattle.std.specs.List.{list_all}
 use Rattle.std.specs.Str.{bytes_eq}
 use Rattle.mm_stated.specs.Stated.{Stated}
 use Rattle.mm_scope.specs.Contents.{stated_at}
+pub use Rattle.mm_scope.specs.Steps.{most_symbols}
 use Rattle.mm_stated.specs.declared.statement.Kind.{Kind}
 use Rattle.mm_stated.specs.declared.statement.Kind.TheVariants as kind
 use Rattle.mm_stack.specs.Differing.{violations}
@@ -15,10 +16,6 @@ use Rattle.mm_stack.specs.declared.outcome.Verdict.{Verdict}
 use Rattle.mm_stack.specs.declared.outcome.Verdict.TheVariants.{Incomplete, Faulty}
 use Rattle.mm_stack.specs.declared.step.Step.{Step}
 use Rattle.mm_stack.specs.declared.step.Step.TheVariants.{Hyp, Apply, Unknown}
-
--- the longest entry, in symbols
-abbrev pub most_symbols : ℕ
-most_symbols = 32768
 
 abbrev pub is_float : Kind → Bool
 is_float kind.Float = true
@@ -78,9 +75,13 @@ kept a stack = length stack - length a.mandatory
 abbrev pub popped : List ℕ → Stated → List (List ℕ) → List Argument
 popped bytes a stack = arguments bytes a.mandatory (drop (kept a stack) stack)
 
+-- the substitution that the entries which it pops fix
+abbrev pub substitution_at : List ℕ → Stated → List (List ℕ) → List Binding
+substitution_at bytes a stack = substitution_of (popped bytes a stack)
+
 -- what stands for each symbol at an assertion
 abbrev pub values_at : List ℕ → Stated → List (List ℕ) → ℕ → List ℕ
-values_at bytes a stack = value_of (substitution_of (popped bytes a stack))
+values_at bytes a stack = value_of (substitution_at bytes a stack)
 
 -- the entry that an assertion pushes: the instance of its symbols
 abbrev pub conclusion_at : List ℕ → Stated → List (List ℕ) → List ℕ

@@ -8,11 +8,9 @@ ghost use Rattle.mm_stack.specs.Running.{most_symbols};
 
 use crate::stack::Stack;
 use crate::values::Values;
+use mm_scope::MOST_SYMBOLS;
 use std::alloc::AllocError;
 use std::slice;
-
-/// The longest entry, in symbols.
-const MOST_SYMBOLS: usize = 32_768;
 
 /// What stands for a symbol.
 pub fn value<'a>(values: &Values, stack: &'a Stack, symbol: &'a u32) -> &'a [u32]

@@ -1,6 +1,6 @@
 -- Rising numbers.
 use Rattle.std.proofs.Common.{◌≡◌, ℕ, zero, suc, ◌+◌, ◌≤◌, ◌<◌, Bool, true, false, cond, ◌||◌, List, [], ◌∷◌, ◌++◌, length, take, filter, fold, get_or, nat_eq, nat_lt, nat_cmp, refl, sym, ap, ◌∙◌, subst, arith, ◌⊎◌, inl, inr, Result, Ok, Err, IfOk}
-use Rattle.std.proofs.lemmas.Bool.{eqb-true, true≢false, false≢true}
+use Rattle.std.proofs.lemmas.Bool.{eqb-true, true≢false, false≢true, or_left, or_right}
 use Rattle.std.proofs.lemmas.Map.Keys.{IsDistinct-push, IsDistinct-IsPermutation, IsStrictlyIncreasing-from_distinct}
 use Rattle.std.proofs.lemmas.List.Sorted.{IsNonDecreasingBy-from_sort, list_any-IsPermutation}
 use Rattle.std.specs.List.{list_any, IsDistinct}
@@ -9,10 +9,7 @@ use Rattle.std.specs.Cmp.{IsEquivalence}
 use Rattle.mm_tables.specs.Marked.{with_number}
 use Rattle.mm_stated.specs.Needed.{put_in, rising}
 use Rattle.std.proofs.lemmas.List.Folds.{list_any-append}
-
-or_false : (b : Bool) → (b || false) ≡ b
-or_false true = refl
-or_false false = refl
+use Rattle.std.proofs.Math.Bool.{or-false, or_assoc}
 
 -- the numbers rise from low on
 abbrev pub Rises : ℕ → List ℕ → Type 0
@@ -42,18 +39,11 @@ eq_itself n = grind arith
 eq_below : (k x : ℕ) → k < x → nat_eq k x ≡ false
 eq_below k x h = grind (arith, h)
 
-pub or_here : (a b : Bool) → a ≡ true → (a || b) ≡ true
-or_here a b e = rw e refl
-
-pub or_later : (a b : Bool) → b ≡ true → (a || b) ≡ true
-or_later true b e = refl
-or_later false b e = e
-
 pub rises_push : (n low : ℕ) (xs : List ℕ) → low ≤ n → Rises low xs → ((k : ℕ) → list_any (nat_eq k) xs ≡ true → k < n) → Rises low (xs ++ n ∷ [])
 rises_push n low [] h r below = (h, tt)
 rises_push n low (x ∷ xs) h r below =
-    let less : x < n = below x (or_here (nat_eq x x) (list_any (nat_eq x) xs) (eq_itself x)) in
-    (r.0, rises_push n (suc x) xs (omega (arith, less)) r.1 (λ k on. below k (or_later (nat_eq k x) (list_any (nat_eq k) xs) on)))
+    let less : x < n = below x (or_left (nat_eq x x) (list_any (nat_eq x) xs) (eq_itself x)) in
+    (r.0, rises_push n (suc x) xs (omega (arith, less)) r.1 (λ k on. below k (or_right (nat_eq k x) (list_any (nat_eq k) xs) on)))
 
 -- what rises from low on has nothing below
 none_below : (k low : ℕ) (xs : List ℕ) → k < low → Rises low xs → list_any (nat_eq k) xs ≡ false
@@ -64,7 +54,7 @@ order : (x y : ℕ) → (x < y) ⊎ ((y < x) ⊎ (x ≡ y))
 order x y = grind arith
 
 there : (x : ℕ) (xs : List ℕ) → list_any (nat_eq x) (x ∷ xs) ≡ true
-there x xs = or_here (nat_eq x x) (list_any (nat_eq x) xs) (eq_itself x)
+there x xs = or_left (nat_eq x x) (list_any (nat_eq x) xs) (eq_itself x)
 
 -- rising numbers are given by what is among them
 pub same_rising : (xs ys : List ℕ) (low : ℕ) → Rises low xs → Rises low ys → ((k : ℕ) → list_any (nat_eq k) xs ≡ list_any (nat_eq k) ys) → xs ≡ ys
@@ -147,16 +137,12 @@ gathered_any_by : (k n : ℕ) (xs : List ℕ) (b : Bool) → list_any (nat_eq n)
 gathered_any_by k n xs true e = by (nat_eq k n) refl
   where
     by : (b : Bool) → nat_eq k n ≡ b → list_any (nat_eq k) xs ≡ (list_any (nat_eq k) xs || b)
-    by true f = let same : list_any (nat_eq k) xs ≡ true = ap (λ m. list_any (nat_eq m) xs) (eqb-true k n f) ∙ e in same ∙ sym (or_here (list_any (nat_eq k) xs) true same)
-    by false f = sym (or_false (list_any (nat_eq k) xs))
-gathered_any_by k n xs false e = list_any-append (nat_eq k) xs (n ∷ []) ∙ ap (λ b. list_any (nat_eq k) xs || b) (or_false (nat_eq k n))
-
-or_assoc : (a b c : Bool) → ((a || b) || c) ≡ (a || (b || c))
-or_assoc true b c = refl
-or_assoc false b c = refl
+    by true f = let same : list_any (nat_eq k) xs ≡ true = ap (λ m. list_any (nat_eq m) xs) (eqb-true k n f) ∙ e in same ∙ sym (or_left (list_any (nat_eq k) xs) true same)
+    by false f = sym (or-false (list_any (nat_eq k) xs))
+gathered_any_by k n xs false e = list_any-append (nat_eq k) xs (n ∷ []) ∙ ap (λ b. list_any (nat_eq k) xs || b) (or-false (nat_eq k n))
 
 pub gathered_any : (k : ℕ) (ns xs : List ℕ) → list_any (nat_eq k) (fold with_number xs ns) ≡ (list_any (nat_eq k) xs || list_any (nat_eq k) ns)
-gathered_any k [] xs = sym (or_false (list_any (nat_eq k) xs))
+gathered_any k [] xs = sym (or-false (list_any (nat_eq k) xs))
 gathered_any k (n ∷ ns) xs =
     gathered_any k ns (with_number xs n) ∙ ap (λ b. b || list_any (nat_eq k) ns) (gathered_any_by k n xs (list_any (nat_eq n) xs) refl)
     ∙ or_assoc (list_any (nat_eq k) xs) (nat_eq k n) (list_any (nat_eq k) ns)

@@ -8,11 +8,9 @@ use crate::fault::TooLongOrMemory;
 use crate::string::WStr;
 use crate::subst::Subst;
 use crate::symbol::WSym;
+use mm_scope::MOST_SYMBOLS;
 use std::alloc::Global;
 use std::slice;
-
-/// The greatest number of symbols of a string.
-pub const MOST_SYMBOLS: usize = 32_768;
 
 /// What stands for a symbol: the value of a key; any other symbol stands for itself.
 fn value<'a>(theta: &'a Subst, symbol: &'a WSym) -> &'a [WSym]
@@ -25,7 +23,7 @@ fn value<'a>(theta: &'a Subst, symbol: &'a WSym) -> &'a [WSym]
 }
 
 /// The string with each key replaced by its value, all keys at once. It is refused exactly where it has more than
-/// 32,768 symbols (Metamath book, section 4.1.4).
+/// `MOST_SYMBOLS` symbols (Metamath book, section 4.1.4).
 pub fn apply(alloc: Global, theta: &Subst, s: &WStr) -> Result<WStr, TooLongOrMemory>
     ensures { IsApplied result (applied theta.now s.now) }
 {

@@ -7,6 +7,7 @@ use Rattle.std.proofs.lemmas.Grind.{common_steps}
 use Rattle.std.proofs.lemmas.List.{reverse-append, length-reverse, get_or-reverse, length-map, take-map}
 use Rattle.std.proofs.lemmas.List.Elements.{All-tail}
 use Rattle.std.proofs.lemmas.List.Folds.{list_any-append}
+use Rattle.std.proofs.lemmas.Bool.{eq-eqb, ne_eqb}
 use Rattle.mm_tables.specs.declared.trail.Node.{Node}
 use Rattle.mm_tables.specs.Trails.{chain, trail, Falls, LinksFall, AreChains, layers_of}
 use Rattle.mm_tables.specs.Layered.{pushed, ended}
@@ -107,12 +108,6 @@ pub no_links : LinksFall []
 unfolding Falls
 no_links = tt
 
-equals : (m n : ℕ) → m ≡ n → nat_eq m n ≡ true
-equals m n h = grind (arith, h)
-
-differs : (m n : ℕ) → m ≢ n → nat_eq m n ≡ false
-differs m n h = grind (arith, h)
-
 or_none : (a b : Bool) → b ≡ false → (a || (b || false)) ≡ a
 or_none true b h = refl
 or_none false b h = rw h refl
@@ -123,11 +118,11 @@ or_one false b h = rw h refl
 
 -- a value that stands on top is held
 pub held_on_top : (value : ℕ) (xs : List ℕ) (x : ℕ) → value ≡ x → list_any (nat_eq value) (xs ++ x ∷ []) ≡ true
-held_on_top value xs x h = list_any-append (nat_eq value) xs (x ∷ []) ∙ or_one (list_any (nat_eq value) xs) (nat_eq value x) (equals value x h)
+held_on_top value xs x h = list_any-append (nat_eq value) xs (x ∷ []) ∙ or_one (list_any (nat_eq value) xs) (nat_eq value x) (eq-eqb value x h)
 
 -- one that does not is held below or not at all
 pub held_below : (value : ℕ) (xs : List ℕ) (x : ℕ) → value ≢ x → list_any (nat_eq value) (xs ++ x ∷ []) ≡ list_any (nat_eq value) xs
-held_below value xs x h = list_any-append (nat_eq value) xs (x ∷ []) ∙ or_none (list_any (nat_eq value) xs) (nat_eq value x) (differs value x h)
+held_below value xs x h = list_any-append (nat_eq value) xs (x ∷ []) ∙ or_none (list_any (nat_eq value) xs) (nat_eq value x) (ne_eqb value x h)
 
 -- what is in force where no block is open
 last_mapped : (f : ℕ → List ℕ) (tops : List ℕ) → f 0 ≡ [] → get_or (map f tops) (length (map f tops) - 1) [] ≡ f (get_or tops (length tops - 1) 0)

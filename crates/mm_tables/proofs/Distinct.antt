@@ -4,6 +4,7 @@ use Rattle.std.specs.List.{Contains, AllPairs, list_any}
 use Rattle.std.proofs.lemmas.List.{at_drop_more}
 use Rattle.std.proofs.lemmas.List.Elements.{All-append, All-map, All-weaker, All-filter, All-contains, All-contains_itself, filter_passes, Contains-append_left, Contains-append_right}
 use Rattle.std.proofs.lemmas.List.Kept.{AllPairs-cons, AllPairs-filter}
+use Rattle.std.proofs.Math.Bool.{and-false}
 use Rattle.mm_tables.specs.Distinct.{is_held, holds_both, are_distinct, pairs_with, pairs_among, StandsBefore}
 
 Listed : List (List ℕ) → List ℕ → ℕ × ℕ → Type 0
@@ -88,10 +89,6 @@ pub among_step : (groups : List (List ℕ)) (vs : List ℕ) (i d : ℕ) → i < 
 unfolding pairs_among
 among_step groups vs i d h = sym (at_drop_more (λ xs. pairs_among groups xs) vs i d h)
 
-and_false : (b : Bool) → (b && false) ≡ false
-and_false true = refl
-and_false false = refl
-
 one_less : (a x r b : Bool) → (a || r) ≡ false → (r ≡ false → b ≡ false) → ((a && x) || b) ≡ false
 one_less true x r b h f = cc
 one_less false x r b h f = f h
@@ -103,7 +100,7 @@ none_both (g ∷ gs) u v h = one_less (is_held g u) (is_held g v) (list_any (λ 
 
 none_differ : (groups : List (List ℕ)) (u v : ℕ) → list_any (λ g. is_held g u) groups ≡ false → are_distinct groups u v ≡ false
 unfolding are_distinct
-none_differ groups u v h = ap (λ b. not (nat_eq u v) && b) (none_both groups u v h) ∙ and_false (not (nat_eq u v))
+none_differ groups u v h = ap (λ b. not (nat_eq u v) && b) (none_both groups u v h) ∙ and-false (not (nat_eq u v))
 
 pub none_with : (groups : List (List ℕ)) (u : ℕ) (vs : List ℕ) → list_any (λ g. is_held g u) groups ≡ false → pairs_with groups u vs ≡ []
 none_with groups u [] h = refl

@@ -5,11 +5,9 @@ use Rattle.std.proofs.lemmas.List.{get_or_append_left}
 use Rattle.std.proofs.Math.ListN.{get_or-eq_default}
 use Rattle.std.proofs.Math.Seq.{get_or-append_seam}
 use Rattle.std.proofs.lemmas.Option.{slice_get-get_or}
+use Rattle.std.proofs.lemmas.Bool.{cases_lt}
 use Rattle.mm_tables.specs.Moves.{Move, item, opened, closed, noted, in_force, notes, before}
 use Rattle.mm_tables.specs.Layered.{layered}
-
-below_or : (k n : ℕ) → (k < n) ⊎ (n ≤ k)
-below_or k n = grind arith
 
 module _ {X : Type 0} where
   -- what was in force where the block began that a look back leaves after so many, the innermost first
@@ -101,7 +99,7 @@ module _ {X : Type 0} where
   in_force_at k (item xs ∷ past) h = rw (sooner (item xs) k past h) (in_force_at k past h)
   in_force_at k (opened ∷ past) h = rw (sooner opened k past h) (in_force_at k past h)
   in_force_at k (closed ∷ past) h = rw (sooner closed k past h) (in_force_at k past h)
-  in_force_at k (noted ∷ past) h = rw (sooner noted k past h) (elim (below_or k (notes past)) [
+  in_force_at k (noted ∷ past) h = rw (sooner noted k past h) (elim (cases_lt k (notes past)) [
     | inl here ↦ appended (layered past).moments (layered past).now k (omega (arith, here, moments_are_noted past)) ∙ in_force_at k past here
     | inr top ↦ newest (layered past).moments (layered past).now k (omega (arith, top, h, moments_are_noted past))
         ∙ ap Some (in_force_now past ∙ ap (in_force zero) (sym (later k past top)))

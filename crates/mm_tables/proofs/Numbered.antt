@@ -7,6 +7,8 @@ use Rattle.std.proofs.lemmas.Grind.{common_steps}
 use Rattle.std.proofs.lemmas.Bool.{eqb-true}
 use Rattle.std.proofs.lemmas.List.{get_or-set_same, set-get_or, map-set, get_or-map, take-take, length-take-le, take_at, take_all, drop_more, drop_all, map-append, length-map, append-nil}
 use Rattle.std.proofs.lemmas.List.Elements.{filter_more}
+use Rattle.std.proofs.Math.Bool.{and-true, and-false, or-false}
+use Rattle.std.proofs.lemmas.List.Folds.{list_any-append}
 use Rattle.mm_tables.specs.Texts.{texts}
 use Rattle.mm_tables.specs.Distinct.{is_held, holds_both}
 use Rattle.mm_tables.specs.Numbering.{numbers_of, copies, numbers_from, shorter, AreNumbers, share, AtLeast, IsRising}
@@ -143,10 +145,6 @@ or_assoc : (a b c : Bool) → (a || (b || c)) ≡ ((a || b) || c)
 or_assoc true b c = refl
 or_assoc false b c = refl
 
-any_append : {A : Type 0} (p : A → Bool) (xs ys : List A) → list_any p (xs ++ ys) ≡ (list_any p xs || list_any p ys)
-any_append p [] ys = refl
-any_append p (x ∷ xs) ys = ap (λ b. p x || b) (any_append p xs ys) ∙ or_assoc (p x) (list_any p xs) (list_any p ys)
-
 absorbs : (a b : Bool) → (b || (a && b)) ≡ b
 absorbs true true = refl
 absorbs true false = refl
@@ -192,33 +190,21 @@ numbers_rise first (g ∷ gs) v =
     (at_least_weaker first (suc first) (numbers_from (suc first) gs v) (omega arith) (numbers_at_least (suc first) gs v))
     (numbers_rise (suc first) gs v)
 
-and_true : (b : Bool) → (b && true) ≡ b
-and_true true = refl
-and_true false = refl
-
-and_false : (b : Bool) → (b && false) ≡ false
-and_false true = refl
-and_false false = refl
-
-or_false : (b : Bool) → (b || false) ≡ b
-or_false true = refl
-or_false false = refl
-
 same_number : (n : ℕ) → nat_eq n n ≡ true
 same_number n = grind arith
 
 -- the first group's number is among a variable's numbers where that group holds it
 first_held : (first : ℕ) (g : List ℕ) (rest : List ℕ) (v : ℕ) → AtLeast (suc first) rest → is_held (copies first g v ++ rest) first ≡ is_held g v
 first_held first g rest v h =
-    any_append (λ m. nat_eq first m) (copies first g v) rest
-    ∙ ap (λ b. b || is_held rest first) (any_copies (λ m. nat_eq first m) first g v ∙ ap (λ b. is_held g v && b) (same_number first) ∙ and_true (is_held g v))
-    ∙ ap (λ b. is_held g v || b) (none_below (suc first) first rest (omega arith) h) ∙ or_false (is_held g v)
+    list_any-append (λ m. nat_eq first m) (copies first g v) rest
+    ∙ ap (λ b. b || is_held rest first) (any_copies (λ m. nat_eq first m) first g v ∙ ap (λ b. is_held g v && b) (same_number first) ∙ and-true (is_held g v))
+    ∙ ap (λ b. is_held g v || b) (none_below (suc first) first rest (omega arith) h) ∙ or-false (is_held g v)
 
 -- and no later number is
 later_held : (first : ℕ) (g : List ℕ) (rest : List ℕ) (v n : ℕ) → first < n → is_held (copies first g v ++ rest) n ≡ is_held rest n
 later_held first g rest v n h =
-    any_append (λ m. nat_eq n m) (copies first g v) rest
-    ∙ ap (λ b. b || is_held rest n) (any_copies (λ m. nat_eq n m) first g v ∙ ap (λ b. is_held g v && b) (differs_above n first h) ∙ and_false (is_held g v))
+    list_any-append (λ m. nat_eq n m) (copies first g v) rest
+    ∙ ap (λ b. b || is_held rest n) (any_copies (λ m. nat_eq n m) first g v ∙ ap (λ b. is_held g v && b) (differs_above n first h) ∙ and-false (is_held g v))
 
 later_shared : (first : ℕ) (g : List ℕ) (rest : List ℕ) (v : ℕ) (xs : List ℕ) → AtLeast (suc first) xs → share xs (copies first g v ++ rest) ≡ share xs rest
 later_shared first g rest v [] h = refl
@@ -232,7 +218,7 @@ shared first [] u v = refl
 shared first (g ∷ gs) u v =
     let later : List ℕ = numbers_from (suc first) gs u in
     let others : List ℕ = numbers_from (suc first) gs v in
-    any_append (λ x. is_held (copies first g v ++ others) x) (copies first g u) later
+    list_any-append (λ x. is_held (copies first g v ++ others) x) (copies first g u) later
     ∙ ap (λ b. b || share later (copies first g v ++ others))
     (any_copies (λ x. is_held (copies first g v ++ others) x) first g u
     ∙ ap (λ b. is_held g u && b) (first_held first g others v (numbers_at_least (suc first) gs v)))

@@ -1,6 +1,6 @@
 //! Marks on numbers.
 
-ghost use Rattle.std.specs.Prelude.{◌≡◌, ◌<◌, ◌||◌, ◌==◌, ℕ, [], false, OnOk, length};
+ghost use Rattle.std.specs.Prelude.{◌≡◌, ◌<◌, ◌||◌, ◌==◌, ℕ, [], false, OnOk, OnErr, length};
 ghost use Rattle.std.specs.List.{list_any};
 ghost use Rattle.mm_tables.specs.Marked.{is_marked};
 
@@ -52,6 +52,7 @@ impl Marks {
     pub(crate) fn reach(&mut self, number: u32) -> Result<(), AllocError>
         ensures reached { OnOk result (number < length self.new) }
         ensures same { (n : ℕ) → is_marked self.new n ≡ is_marked self.old n }
+        ensures err { OnErr result (self.new ≡ self.old) }
     {
         if number as usize >= self.stamps.len() {
             self.stamps.resize(number as usize + 1, 0)?;
@@ -66,9 +67,10 @@ impl Marks {
         self.stamps[number as usize] = self.turn;
     }
 
-    /// Marks a number.
+    /// Marks a number; out of memory, the marks are as they were.
     pub fn mark(&mut self, number: u32) -> Result<(), AllocError>
-        ensures { OnOk result ((n : ℕ) → is_marked self.new n ≡ (is_marked self.old n || n == number)) }
+        ensures ok { OnOk result ((n : ℕ) → is_marked self.new n ≡ (is_marked self.old n || n == number)) }
+        ensures err { OnErr result (self.new ≡ self.old) }
     {
         self.reach(number)?;
         self.stamp(number);

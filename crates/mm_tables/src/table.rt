@@ -1,6 +1,6 @@
 //! The table of symbols, with what is in force of each.
 
-ghost use Rattle.std.specs.Prelude.{◌≡◌, ◌<◌, ◌^◌, [], ◌∷◌, ◌++◌, length, slice_set, slice_get, Some, false, true, OnOk};
+ghost use Rattle.std.specs.Prelude.{◌≡◌, ◌<◌, ◌^◌, [], ◌∷◌, ◌++◌, length, slice_set, slice_get, Some, false, true, OnOk, OnErr};
 ghost use Rattle.std.specs.List.{list_any};
 ghost use Rattle.std.specs.Str.{bytes_eq};
 ghost use Rattle.mm_tables.specs.Tables.{found_in, with_symbol, with_state, standing_at};
@@ -87,7 +87,7 @@ impl SymbolTable {
         }
     }
 
-    /// Adds a symbol.
+    /// Adds a symbol; out of memory, the table is as it was.
     pub fn declare(
         &mut self,
         alloc: Global,
@@ -95,7 +95,8 @@ impl SymbolTable {
         standing: Standing,
     ) -> Result<(), AllocError>
         requires { list_any (bytes_eq text.now) self.old.texts ≡ false }
-        ensures { OnOk result (self.new ≡ with_symbol self.old text.now standing) }
+        ensures ok { OnOk result (self.new ≡ with_symbol self.old text.now standing) }
+        ensures err { OnErr result (self.new ≡ self.old) }
     {
         self.standings.reserve(1)?;
         self.names.insert(alloc, text)?;

@@ -1,6 +1,6 @@
 -- Phrases in texts whose white space is folded.
 use Rattle.std.proofs.Common.{◌≡◌, ◌≤◌, ◌<◌, ◌↔◌, ℕ, ◌+◌, Bool, true, false, ◌&&◌, ◌⊎◌, inl, inr, List, [], ◌∷◌, ◌++◌, Some, length, drop, get_or, nat_eq, IsTrue, refl, sym, ap, ◌∙◌, add-one, arith, drop-cons}
-use Rattle.std.proofs.lemmas.Bool.{eqb-true, false≢true, or_cases, or_right}
+use Rattle.std.proofs.lemmas.Bool.{eqb-true, false≢true, or_cases, or_right, and_parts}
 use Rattle.std.proofs.lemmas.List.{drop_all}
 use Rattle.std.specs.List.{slice_get}
 use Rattle.mm_tokens.specs.Bytes.{is_white}
@@ -168,16 +168,12 @@ unfolding holds folded_after
 found_nowhere phrase text place e h = ap (λ bs. holds phrase (folded bs)) (drop_all place text h) ∙ begins_empty phrase e
 
 -- a phrase that is held stands in the text, and the other way round
-both : (a b : Bool) → (a && b) ≡ true → (a ≡ true) × (b ≡ true)
-both true b h = (refl, h)
-both false b h = absurd (false≢true h)
-
 begins_split : (phrase text : List ℕ) → begins phrase text ≡ true → (rest : List ℕ) × (text ≡ phrase ++ rest)
 unfolding begins
 begins_split [] text h = (text, refl)
 begins_split (p ∷ ps) [] h = absurd (false≢true h)
 begins_split (p ∷ ps) (b ∷ bs) h =
-    let parts : (nat_eq p b ≡ true) × (begins ps bs ≡ true) = both (nat_eq p b) (begins ps bs) h in
+    let parts : (nat_eq p b ≡ true) × (begins ps bs ≡ true) = and_parts (nat_eq p b) (begins ps bs) h in
     let later : (rest : List ℕ) × (bs ≡ ps ++ rest) = begins_split ps bs parts.1 in
     (later.0, one p b bs (ps ++ later.0) (eqb-true p b parts.0) later.1)
   where

@@ -4,7 +4,7 @@ ghost use Rattle.std.specs.Prelude.{◌≡◌, ◌+◌, ◌<◌, ◌≤◌, All,
 ghost use Rattle.mm_scope.specs.Contents.{labels_of};
 ghost use Rattle.mm_subst.specs.Statements.{statement_of};
 ghost use Rattle.mm_subst.specs.Substitutions.{applied};
-ghost use Rattle.mm_plain.specs.Premises.{premises_of};
+ghost use Rattle.mm_plain.specs.Premises.{premise_ids, premises_of};
 ghost use Rattle.mm_plain.specs.Shape.{unknown, known, unknowns};
 ghost use Rattle.mm_tree.specs.Placed.{levels_over};
 
@@ -15,10 +15,11 @@ use mm_subst::{Subst, TooLongOrMemory, WStr, apply, statement};
 use std::alloc::{AllocError, Global};
 use std::sync::ledger::Ledger;
 
-/// The ids of the mandatory hypotheses of an assertion; a hypothesis has none.
-#[tactic(auto, unfolding(mm_plain::specs::Premises::premises_of))]
+/// The ids of the mandatory hypotheses of an assertion, in order; a hypothesis has none.
+#[tactic(auto, unfolding(mm_plain::specs::Premises::premises_of, mm_plain::specs::Premises::premise_ids))]
 pub fn premises(db: &Database, id: StmtId) -> &[u32]
     requires { id.0 < length (labels_of db.now) }
+    ensures ids { result.now ≡ premise_ids db.now id.0 }
     ensures value { map (statement_of db.now) result.now ≡ premises_of db.now id.0 }
     ensures earlier { All (λ m. m < id.0) result.now }
 {

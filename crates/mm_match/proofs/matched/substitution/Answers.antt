@@ -20,7 +20,7 @@ put-requires c =
     let ks = c.args.keys.now in
     let k = c.loop-place.place in
     ap (λ (s : Pairs). value_at s (Var (get_or ks k 0))) c.loop-place.invariant.made
-    ∙ value_at-fresh (take k ks) (get_or ks k 0) (filler blank c.args.target.now c.args.values.now) (c.requires.distinct k (omega arith))
+    ∙ value_at-fresh (take k ks) (get_or ks k 0) (filler blank c.args.target.now c.args.values.now) (c.requires.first k c.in-Some.part c.in-Some.ensures)
 
 pub loop-place-preserved : goal.loop-place-preserved
 loop-place-preserved c =

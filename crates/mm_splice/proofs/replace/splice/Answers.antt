@@ -3,6 +3,7 @@ use Rattle.std.proofs.Common.{◌≡◌, ◌≤◌, ◌+◌, ◌-◌, ℕ, List,
 use Rattle.mm_scope.specs.Contents.{stated_at}
 use Rattle.mm_scope.specs.Contexts.{Fails}
 use Rattle.mm_scope.specs.Databases.{database_of}
+use Rattle.mm_scope.specs.Judged.{most_bytes}
 use Rattle.mm_splice.specs.Keeping.{KeepsTheRest}
 use Rattle.mm_splice.specs.Splicing.{put_between, spliced}
 use Rattle.mm_splice.proofs.Keeping.{keeps_the_rest}
@@ -16,7 +17,7 @@ same_bytes old bytes text items id from to value first last is =
     is ∙ ap (λ b. put_between b from to text) value ∙ ap (λ p. put_between bytes p to text) first ∙ ap (λ p. put_between bytes (stated_at bytes id).from p text) last
 
 room : (old bytes text : List ℕ) (id from to : ℕ) → old ≡ bytes → from ≡ (stated_at bytes id).from → to ≡ (stated_at bytes id).to → from ≤ to → to ≤ length bytes
-    → (length old - (to - from)) + length text ≤ 134217728 → length (spliced bytes id text) ≤ 134217728
+    → (length old - (to - from)) + length text ≤ most_bytes → length (spliced bytes id text) ≤ most_bytes
 room old bytes text id from to value first last up within fits =
     omega (arith, ap length value, first, last, fits, spliced_size bytes id text (omega (arith, up, first, last)) (omega (arith, within, last)))
 
@@ -30,7 +31,7 @@ returns-in-Ok c =
     let kept : KeepsTheRest bytes id text
     = keeps_the_rest bytes id text c.bytes-old.ensures.read c.requires.theorem c.requires.text
     (room c.bytes-old.result.now bytes text id from to c.bytes-old.ensures.value c.place-span.ensures.from c.place-span.ensures.to c.place-span.ensures.ordered c.place-span.ensures.within
-    (omega (arith, c.if-kept-text-gt-MOST_BYTES.false))) in (
+    (omega (arith, c.if-kept-text.false))) in (
       c.in-Ok.ensures.0
           ∙ same_bytes c.bytes-old.result.now bytes text c.in_ok-bytes.bytes.items id from to c.bytes-old.ensures.value c.place-span.ensures.from c.place-span.ensures.to c.in_ok-bytes.ensures,
       kept,
@@ -47,7 +48,7 @@ want_of_memory-requires c =
     let kept : KeepsTheRest bytes id text
     = keeps_the_rest bytes id text c.bytes-old.ensures.read c.requires.theorem c.requires.text
     (room c.bytes-old.result.now bytes text id from to c.bytes-old.ensures.value c.place-span.ensures.from c.place-span.ensures.to c.place-span.ensures.ordered c.place-span.ensures.within
-    (omega (arith, c.if-kept-text-gt-MOST_BYTES.false))) in
+    (omega (arith, c.if-kept-text.false))) in
     let same : c.in_ok-bytes.bytes.items ≡ spliced bytes id text
     = same_bytes c.bytes-old.result.now bytes text c.in_ok-bytes.bytes.items id from to c.bytes-old.ensures.value c.place-span.ensures.from c.place-span.ensures.to c.in_ok-bytes.ensures in
     only_memory (spliced bytes id text) c.in-Err.fault kept.read (subst (λ b. Fails c.in-Err.fault (database_of b)) same c.in-Err.ensures.1)
