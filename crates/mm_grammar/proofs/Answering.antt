@@ -76,7 +76,7 @@ module _ (past : List Event) (t : List ℕ) where
   unknown_as None e h = not_there (bytes_eq t) (symbols past) e
   unknown_as (Some n) e h = absurd (true≢false h)
 
-  label_as : (r : Option ℕ) → (known_as past t r).label ≡ list_any (bytes_eq t) (labels past)
+  pub label_as : (r : Option ℕ) → (known_as past t r).label ≡ list_any (bytes_eq t) (labels past)
   label_as None = refl
   label_as (Some n) = refl
 

@@ -1,5 +1,5 @@
 -- What a statement that is begun has so far.
-use Rattle.std.proofs.Common.{◌≡◌, ◌≤◌, ◌<◌, ℕ, suc, Bool, true, false, not, ◌&&◌, List, [], ◌∷◌, ◌++◌, All, length, get_or, nat_eq, nat_lt, slice_index, sym, ap, ◌∙◌, arith, length-append, inl, inr}
+use Rattle.std.proofs.Common.{◌≡◌, ◌≤◌, ◌<◌, ℕ, suc, Bool, true, false, not, ◌&&◌, List, [], ◌∷◌, ◌++◌, length, get_or, nat_eq, nat_lt, slice_index, sym, ap, ◌∙◌, arith, length-append, inl, inr}
 use Rattle.std.proofs.Math.Seq.{get_or-append_seam}
 use Rattle.std.proofs.lemmas.Bool.{eqb-true, cases_lt, true≢false, not-false}
 use Rattle.std.proofs.lemmas.List.{get_or_append_left}
@@ -8,26 +8,11 @@ use Rattle.std.proofs.lemmas.List.Folds.{list_any_at}
 use Rattle.std.specs.List.{list_any}
 use Rattle.mm_scope.specs.Events.{Event}
 use Rattle.mm_scope.specs.Laws.{IsConstant, IsInScope}
+use Rattle.mm_grammar.specs.Beginnings.{IsTypingBegun, IsExpressionBegun, IsPartingBegun}
 use Rattle.mm_grammar.specs.Rules.{HasFloat, IsTyped, Differ, IsTyping, IsExpression, IsParting}
 
--- of a `$f`
-pub record IsTypingBegun (past : List Event) (ss : List ℕ) : Type 0 where
-  pub typecode : 0 < length ss → IsConstant past (slice_index ss 0)
-  pub variable : 1 < length ss → IsInScope past (slice_index ss 1)
-  pub free : 1 < length ss → ¬ HasFloat past (slice_index ss 1)
-
--- of a `$e`, `$a` or `$p`
-pub record IsExpressionBegun (past : List Event) (ss : List ℕ) : Type 0 where
-  pub typecode : 0 < length ss → IsConstant past (slice_index ss 0)
-  pub typed : All (IsTyped past) ss
-
--- of a `$d`
-pub record IsPartingBegun (past : List Event) (ss : List ℕ) : Type 0 where
-  pub variables : All (IsInScope past) ss
-  pub differ : Differ ss
-
 pub typing_none : (past : List Event) → IsTypingBegun past []
-typing_none past = record { typecode = λ h. absurd (omega (arith, h)); variable = λ h. absurd (omega (arith, h)); free = λ h. absurd (omega (arith, h)) }
+typing_none past = record { few = omega arith; typecode = λ h. absurd (omega (arith, h)); variable = λ h. absurd (omega (arith, h)); free = λ h. absurd (omega (arith, h)) }
 
 not_zero : (k : ℕ) → nat_eq (suc k) 0 ≡ true → ⊥
 not_zero k e = grind arith
@@ -36,13 +21,13 @@ two_or_more : (k : ℕ) → nat_lt 1 (suc (suc k)) ≡ false → ⊥
 two_or_more k e = grind arith
 
 pub typing_first : (past : List Event) (ss : List ℕ) (n : ℕ) → nat_eq (length ss) 0 ≡ true → IsConstant past n → IsTypingBegun past (ss ++ n ∷ [])
-typing_first past [] n none c = record { typecode = λ _. c; variable = λ h. absurd (omega (arith, h)); free = λ h. absurd (omega (arith, h)) }
+typing_first past [] n none c = record { few = omega arith; typecode = λ _. c; variable = λ h. absurd (omega (arith, h)); free = λ h. absurd (omega (arith, h)) }
 typing_first past (x ∷ xs) n none c = absurd (not_zero (length xs) none)
 
 pub typing_second : (past : List Event) (ss : List ℕ) (n : ℕ) → nat_eq (length ss) 0 ≡ false → nat_lt 1 (length ss) ≡ false
     → IsTypingBegun past ss → IsInScope past n → ¬ HasFloat past n → IsTypingBegun past (ss ++ n ∷ [])
 typing_second past [] n some few b v free = absurd (true≢false some)
-typing_second past (x ∷ []) n some few b v free = record { typecode = λ _. b.typecode (omega arith); variable = λ _. v; free = λ _. free }
+typing_second past (x ∷ []) n some few b v free = record { few = omega arith; typecode = λ _. b.typecode (omega arith); variable = λ _. v; free = λ _. free }
 typing_second past (x ∷ y ∷ ys) n some few b v free = absurd (two_or_more (length ys) few)
 
 pub typing_done : (past : List Event) (ss : List ℕ) → nat_eq (length ss) 2 ≡ true → IsTypingBegun past ss → IsTyping past ss

@@ -23,12 +23,12 @@ two_symbols k j h few e = (two k h e, omega (arith, few, e))
     two : (m : ℕ) → nat_lt m 2 ≡ false → m ≡ j → 2 ≤ j
     two m g f = grind (arith, g, f)
 
-one_or_more : (k j : ℕ) → 0 < k → k ≤ most_symbols → k ≡ j → (1 ≤ j) × (j ≤ most_symbols)
+pub one_or_more : (k j : ℕ) → 0 < k → k ≤ most_symbols → k ≡ j → (1 ≤ j) × (j ≤ most_symbols)
 one_or_more k j h few e = (omega (arith, h, e), omega (arith, few, e))
 
 -- what a labelled statement has and says by then
 module _ (bytes keyword label : List ℕ) (described : Option Span) (all : List (List ℕ)) (buffer : List ℕ) (begun : List Noted) (s : Stating bytes keyword label described all buffer begun) where
-  stating_stands : begun ≡ s.labelling.name ∷ (s.listing.first ∷ places s.listed)
+  pub stating_stands : begun ≡ s.labelling.name ∷ (s.listing.first ∷ places s.listed)
   stating_stands = s.labelling.stands ∙ ap (λ r. s.labelling.name ∷ r) s.listing.stands
 
   stating_said : (say : List ℕ → List ℕ → Option Span → Event) → say label buffer described ≡ say (text_at bytes s.labelling.name) (numbers s.listed) s.labelling.name.comment
@@ -54,6 +54,7 @@ module _ (bytes : List ℕ) (read : List Noted) (s : State (List Event)) (n : No
       fine_if (nat_eq (length s.buffer) 0) _ _ Good (λ _. tt) (λ some. record {
         phrases = g.phrases ++ (q ∷ []);
         begun = [];
+        placed = tt;
         done = one_phrase bytes (symbols s.context) read g.phrases g.begun g.done q n (sym (ap (λ b. b ++ (n ∷ [])) l.stands))
             (l.reads, some_symbols (length s.buffer) (length g.now.listed) some l.few (as_long s.buffer g.now.listed l.numbered), ends) l.named;
         now = (refl, g.now.said ∙ sym (past_push bytes g.phrases q));
@@ -67,6 +68,7 @@ module _ (bytes : List ℕ) (read : List Noted) (s : State (List Event)) (n : No
       fine_if (nat_eq (length s.buffer) 0) _ _ Good (λ _. tt) (λ some. record {
         phrases = g.phrases ++ (q ∷ []);
         begun = [];
+        placed = tt;
         done = one_phrase bytes (symbols s.context) read g.phrases g.begun g.done q n (sym (ap (λ b. b ++ (n ∷ [])) l.stands))
             (l.reads, some_symbols (length s.buffer) (length g.now.listed) some l.few (as_long s.buffer g.now.listed l.numbered), ends) l.named;
         now = (refl, g.now.said ∙ sym (past_push bytes g.phrases q));
@@ -80,6 +82,7 @@ module _ (bytes : List ℕ) (read : List Noted) (s : State (List Event)) (n : No
       fine_if (nat_lt (length s.buffer) 2) _ _ Good (λ _. tt) (λ some. record {
         phrases = g.phrases ++ (q ∷ []);
         begun = [];
+        placed = tt;
         done = one_phrase bytes (symbols s.context) read g.phrases g.begun g.done q n (sym (ap (λ b. b ++ (n ∷ [])) l.stands))
             (l.reads, two_symbols (length s.buffer) (length g.now.0.0) some l.few (as_long s.buffer g.now.0.0 l.numbered), ends) l.named;
         now = (refl, ap (λ b. distinct b ∷ s.context) l.numbered ∙ ap (λ past. distinct (numbers g.now.0.0) ∷ past) g.now.1 ∙ sym (past_push bytes g.phrases q));
@@ -107,6 +110,7 @@ module _ (bytes : List ℕ) (read : List Noted) (s : State (List Event)) (n : No
       fine_if (nat_eq (length s.buffer) 2) _ _ Good (λ two. record {
         phrases = g.phrases ++ (q ∷ []);
         begun = [];
+        placed = tt;
         done = one_phrase bytes (symbols s.context) read g.phrases g.begun g.done q n (sym (ends_so (codes "$f") g.begun st))
             (st.labelling.is, st.listing.reads, sym (long_so (codes "$f") g.begun st) ∙ eqb-true (length s.buffer) 2 two, ends) st.listing.named;
         now = (refl, says_so (codes "$f") g.begun st float _ g.now.1 ∙ sym (past_push bytes g.phrases q));
@@ -120,6 +124,7 @@ module _ (bytes : List ℕ) (read : List Noted) (s : State (List Event)) (n : No
       fine_if (nat_eq (length s.buffer) 0) _ _ Good (λ _. tt) (λ some. record {
         phrases = g.phrases ++ (q ∷ []);
         begun = [];
+        placed = tt;
         done = one_phrase bytes (symbols s.context) read g.phrases g.begun g.done q n (sym (ends_so (codes "$e") g.begun st))
             (st.labelling.is, st.listing.reads, some_symbols (length s.buffer) (length st.listed) some st.listing.few (long_so (codes "$e") g.begun st), ends) st.listing.named;
         now = (refl, says_so (codes "$e") g.begun st essential _ g.now.1 ∙ sym (past_push bytes g.phrases q));
@@ -133,6 +138,7 @@ module _ (bytes : List ℕ) (read : List Noted) (s : State (List Event)) (n : No
       fine_if (nat_eq (length s.buffer) 0) _ _ Good (λ _. tt) (λ some. record {
         phrases = g.phrases ++ (q ∷ []);
         begun = [];
+        placed = tt;
         done = one_phrase bytes (symbols s.context) read g.phrases g.begun g.done q n (sym (ends_so (codes "$a") g.begun st))
             (st.labelling.is, st.listing.reads, some_symbols (length s.buffer) (length st.listed) some st.listing.few (long_so (codes "$a") g.begun st), ends) st.listing.named;
         now = (refl, says_so (codes "$a") g.begun st asserted _ g.now.1 ∙ sym (past_push bytes g.phrases q));
@@ -148,6 +154,7 @@ module _ (bytes : List ℕ) (read : List Noted) (s : State (List Event)) (n : No
       record {
         phrases = g.phrases ++ (q ∷ []);
         begun = [];
+        placed = tt;
         done = one_phrase bytes (symbols s.context) read g.phrases g.begun g.done q n
             (sym (ap (λ b. b ++ (n ∷ [])) pr.stands ∙ append_assoc pr.front (pr.equals ∷ pr.proof) (n ∷ [])
             ∙ ap (λ f. f ++ (pr.equals ∷ (pr.proof ++ (n ∷ [])))) (stating_stands bytes (codes "$p") s.label s.described (symbols s.context) s.buffer pr.front st)))

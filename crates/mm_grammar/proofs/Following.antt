@@ -14,13 +14,14 @@ use Rattle.mm_scope.specs.Steps.{most_label, Answers, State, symbol_checks, take
 use Rattle.mm_scope.specs.declared.mode.Mode.{Mode}
 use Rattle.mm_scope.specs.declared.mode.Mode.TheVariants as mode
 use Rattle.mm_plain.proofs.Fine.{IfFine, fine_if, fine_unless, of_each}
+use Rattle.mm_grammar.specs.Beginnings.{IsTypingBegun, IsExpressionBegun, IsPartingBegun}
 use Rattle.mm_grammar.specs.Rules.{IsNewLabel, FollowsRules}
 use Rattle.mm_grammar.proofs.Answering.{constant_back, scope_back, free_back, typed_back, inactive_back, unknown_back, no_label_back, outermost_back, deep_back}
-use Rattle.mm_grammar.proofs.Begun.{IsTypingBegun, IsExpressionBegun, IsPartingBegun, typing_none, typing_first, typing_second, typing_done, expression_none, expression_more, expression_done, parting_none, parting_more, parting_done}
+use Rattle.mm_grammar.proofs.Begun.{typing_none, typing_first, typing_second, typing_done, expression_none, expression_more, expression_done, parting_none, parting_more, parting_done}
 use Rattle.mm_grammar.proofs.Known.{declared_named}
 
 -- the statement that is begun is as it is asked so far
-abbrev Fits : Mode → List Event → List ℕ → List ℕ → Type 0
+abbrev pub Fits : Mode → List Event → List ℕ → List ℕ → Type 0
 Fits mode.Start past l ss = Unit {0}
 Fits mode.Labelled past l ss = IsNewLabel past l
 Fits mode.Constants past l ss = open_blocks past ≡ []
@@ -32,9 +33,9 @@ Fits mode.Axiom past l ss = IsNewLabel past l × IsExpressionBegun past ss
 Fits mode.Theorem past l ss = IsNewLabel past l × IsExpressionBegun past ss
 Fits mode.Proof past l ss = IsNewLabel past l × IsExpressionBegun past ss × (0 < length ss)
 
-record FollowsAt (past : List Event) (m : Mode) (l ss : List ℕ) : Type 0 where
-  all : FollowsRules past
-  fits : Fits m past l ss
+pub record FollowsAt (past : List Event) (m : Mode) (l ss : List ℕ) : Type 0 where
+  pub all : FollowsRules past
+  pub fits : Fits m past l ss
 
 abbrev Good : State (List Event) → Type 0
 Good s = FollowsAt s.context s.mode s.label s.buffer
@@ -189,7 +190,7 @@ at_close_good s mode.Start e all t p = fine_if (look_back s.context t).deep _ _ 
 at_close_good s mode.Labelled e all t p = tt
 at_close_good s _ e all t p = tt
 
-step_good : (s : State (List Event)) (w : Word) (t : List ℕ) (p : ℕ) → Good s → IfFine (step_by put s (look_back s.context t) w t p) Good
+pub step_good : (s : State (List Event)) (w : Word) (t : List ℕ) (p : ℕ) → Good s → IfFine (step_by put s (look_back s.context t) w t p) Good
 unfolding step_by
 step_good s word.Unknown t p g = tt
 step_good s word.Inclusion t p g = tt
@@ -206,7 +207,7 @@ step_good s word.Essential t p g = labelled_good s s.mode mode.Essential g (λ n
 step_good s word.Axiom t p g = labelled_good s s.mode mode.Axiom g (λ new. (new, expression_none s.context)) p
 step_good s word.Theorem t p g = labelled_good s s.mode mode.Theorem g (λ new. (new, expression_none s.context)) p
 
-kept : (bytes : List ℕ) (s : State (List Event)) (k : Token) → 0 < length (text_of bytes k) → Good s → IfFine (step put look_back bytes s k) Good
+pub kept : (bytes : List ℕ) (s : State (List Event)) (k : Token) → 0 < length (text_of bytes k) → Good s → IfFine (step put look_back bytes s k) Good
 kept bytes s k some g = step_good s (word_of (text_of bytes k)) (text_of bytes k) k.start g
 
 -- so are those of each database

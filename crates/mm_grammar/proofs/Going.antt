@@ -1,6 +1,6 @@
 -- Reading goes on from token to token, by way of the tokens outside comments.
-use Rattle.std.proofs.Common.{◌≡◌, ℕ, Bool, true, false, cond, not, ◌||◌, List, [], ◌∷◌, Option, None, Some, length, slice_index, nat_eq, codes, Result, Ok, Err, refl, ap, ◌∙◌}
-use Rattle.mm_tokens.specs.Pieces.{open_in}
+use Rattle.std.proofs.Common.{◌≡◌, ℕ, Bool, true, false, cond, not, ◌||◌, List, [], ◌∷◌, Option, None, Some, length, slice_index, nat_eq, codes, Result, Ok, Err, is_ok, refl, sym, ap, ◌∙◌, subst}
+use Rattle.std.proofs.lemmas.Bool.{true≢false}
 use Rattle.mm_tokens.specs.declared.pieces.Span.{Span}
 use Rattle.mm_tokens.specs.declared.pieces.Piece.{Piece}
 use Rattle.mm_tokens.specs.declared.pieces.Piece.TheVariants.{Token, Comment, Open}
@@ -44,13 +44,13 @@ recommented bytes [] s t c e = record { comment = c; is = ap (λ r. Ok (commente
 recommented bytes (n ∷ ns) s t c e = record { comment = e.comment; is = e.is }
 
 -- so reading the pieces reaches what reading the tokens reaches
-pub pieces_read : (bytes : List ℕ) (ps : List Piece) (s t : State (List Event)) → open_in ps ≡ None → EndsIn (read_noted bytes s (noted_from s.comment ps)) t
+pub pieces_read : (bytes : List ℕ) (ps : List Piece) (s t : State (List Event)) → EndsIn (read_noted bytes s (noted_from s.comment ps)) t
     → EndsIn (read_from put look_back bytes s ps) t
 unfolding read_from noted_from read_noted
-pieces_read bytes [] s t none e = e
-pieces_read bytes (Open p ∷ ps) s t none e = cc
-pieces_read bytes (Comment c ∷ ps) s t none e = pieces_read bytes ps (with_comment s c) t none (recommented bytes (noted_from (Some c) ps) s t (Some c) e)
-pieces_read bytes (Token k ∷ ps) s t none e = by (step put look_back bytes s k) e (λ u h. pieces_read bytes ps (without_comment u) t none h)
+pieces_read bytes [] s t e = e
+pieces_read bytes (Open p ∷ ps) s t e = e
+pieces_read bytes (Comment c ∷ ps) s t e = pieces_read bytes ps (with_comment s c) t (recommented bytes (noted_from (Some c) ps) s t (Some c) e)
+pieces_read bytes (Token k ∷ ps) s t e = by (step put look_back bytes s k) e (λ u h. pieces_read bytes ps (without_comment u) t h)
   where
     by : (r : Result (State (List Event)) ReadFault) → EndsIn (after r (λ u. read_noted bytes (without_comment u) (noted_from None ps))) t
         → ((u : State (List Event)) → EndsIn (read_noted bytes (without_comment u) (noted_from None ps)) t → EndsIn (read_from put look_back bytes (without_comment u) ps) t)
@@ -58,36 +58,36 @@ pieces_read bytes (Token k ∷ ps) s t none e = by (step put look_back bytes s k
     by (Ok u) h later = later u h
     by (Err f) h later = record { comment = h.comment; is = h.is }
 
--- the tokens lead to a state between statements, with these events
-pub record ReadsTo (bytes : List ℕ) (s : State (List Event)) (ns : List Noted) (past : List Event) : Type 0 where
+-- what is asked of reading
+abbrev pub Goal : Type 1
+Goal = Result (State (List Event)) ReadFault → Type 0
+
+-- reading the tokens meets it
+abbrev pub ReadsTo : List ℕ → State (List Event) → List Noted → Goal → Type 0
+ReadsTo bytes s ns goal = goal (read_noted bytes s ns)
+
+-- a state between statements, with these events
+pub record IsBetween (past : List Event) (r : Result (State (List Event)) ReadFault) : Type 0 where
   pub begun : ℕ
   pub label : List ℕ
   pub described : Option Span
   pub buffer : List ℕ
   pub proof : ℕ
   pub comment : Option Span
-  pub is : read_noted bytes s ns ≡ Ok (at mode.Start past begun label described buffer proof comment)
+  pub is : r ≡ Ok (at mode.Start past begun label described buffer proof comment)
 
 pub reads_none : (bytes : List ℕ) (past : List Event) (begun : ℕ) (label : List ℕ) (described : Option Span) (buffer : List ℕ) (proof : ℕ) (c : Option Span)
-    → ReadsTo bytes (at mode.Start past begun label described buffer proof c) [] past
+    → ReadsTo bytes (at mode.Start past begun label described buffer proof c) [] (IsBetween past)
 unfolding read_noted
 reads_none bytes past begun label described buffer proof c =
     record { begun = begun; label = label; described = described; buffer = buffer; proof = proof; comment = c; is = refl }
 
 module _ (bytes : List ℕ) (s : State (List Event)) (n : Noted) where
   -- one token after another
-  pub go : (ns : List Noted) (past : List Event) (t : State (List Event)) → step put look_back bytes (commented s n.comment) n.token ≡ Ok t → ReadsTo bytes (without_comment t) ns past
-      → ReadsTo bytes s (n ∷ ns) past
+  pub go : (ns : List Noted) (goal : Goal) (t : State (List Event)) → step put look_back bytes (commented s n.comment) n.token ≡ Ok t → ReadsTo bytes (without_comment t) ns goal
+      → ReadsTo bytes s (n ∷ ns) goal
   unfolding read_noted
-  go ns past t e r = record {
-    begun = r.begun;
-    label = r.label;
-    described = r.described;
-    buffer = r.buffer;
-    proof = r.proof;
-    comment = r.comment;
-    is = ap (λ x. after x (λ u. read_noted bytes (without_comment u) ns)) e ∙ r.is;
-  }
+  go ns goal t e r = subst goal (sym (ap (λ x. after x (λ u. read_noted bytes (without_comment u) ns)) e)) r
 
   -- a keyword, and a token that is none
   pub stepped : (u : List ℕ) (w : Word) → text_at bytes n ≡ u → word_of u ≡ w → (t : State (List Event)) → step_by put (commented s n.comment) (look_back s.context u) w u n.token.start ≡ Ok t
@@ -95,6 +95,35 @@ module _ (bytes : List ℕ) (s : State (List Event)) (n : Noted) where
   stepped u w e is t h =
       ap (λ v. step_by put (commented s n.comment) (look_back s.context v) (word_of v) v n.token.start) e
       ∙ ap (λ v. step_by put (commented s n.comment) (look_back s.context u) v u n.token.start) is ∙ h
+
+-- all tokens are read, or one has a fault
+pub stops : (bytes : List ℕ) (s : State (List Event)) (goal : Goal) → goal (Ok s) → ReadsTo bytes s [] goal
+unfolding read_noted
+stops bytes s goal h = h
+
+pub fails_at : (bytes : List ℕ) (s : State (List Event)) (n : Noted) (ns : List Noted) (f : ReadFault) → step put look_back bytes (commented s n.comment) n.token ≡ Err f
+    → ReadsTo bytes s (n ∷ ns) (λ r. r ≡ Err f)
+unfolding read_noted
+fails_at bytes s n ns f e = ap (λ x. after x (λ u. read_noted bytes (without_comment u) ns)) e
+
+refails : (bytes : List ℕ) (ns : List Noted) (s : State (List Event)) (c : Option Span) (f : ReadFault) → read_noted bytes s ns ≡ Err f → read_noted bytes (commented s c) ns ≡ Err f
+unfolding read_noted
+refails bytes [] s c f e = absurd (true≢false (ap is_ok e))
+refails bytes (n ∷ ns) s c f e = e
+
+-- so reading the pieces has the fault that reading the tokens has
+pub pieces_fail : (bytes : List ℕ) (ps : List Piece) (s : State (List Event)) (f : ReadFault) → read_noted bytes s (noted_from s.comment ps) ≡ Err f → read_from put look_back bytes s ps ≡ Err f
+unfolding read_from noted_from read_noted
+pieces_fail bytes [] s f e = absurd (true≢false (ap is_ok e))
+pieces_fail bytes (Open p ∷ ps) s f e = absurd (true≢false (ap is_ok e))
+pieces_fail bytes (Comment c ∷ ps) s f e = pieces_fail bytes ps (with_comment s c) f (refails bytes (noted_from (Some c) ps) s (Some c) f e)
+pieces_fail bytes (Token k ∷ ps) s f e = by (step put look_back bytes s k) e (λ u h. pieces_fail bytes ps (without_comment u) f h)
+  where
+    by : (r : Result (State (List Event)) ReadFault) → after r (λ u. read_noted bytes (without_comment u) (noted_from None ps)) ≡ Err f
+        → ((u : State (List Event)) → read_noted bytes (without_comment u) (noted_from None ps) ≡ Err f → read_from put look_back bytes (without_comment u) ps ≡ Err f)
+        → after r (λ u. read_from put look_back bytes (without_comment u) ps) ≡ Err f
+    by (Ok u) h later = later u h
+    by (Err g) h later = h
 
 or_true : (a b : Bool) → b ≡ false → (a || not b) ≡ true
 or_true true b h = refl

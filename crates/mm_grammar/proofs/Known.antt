@@ -13,7 +13,7 @@ use Rattle.mm_scope.specs.Events.{Event, symbols}
 use Rattle.mm_scope.specs.Looks.{look_back, known_as}
 
 -- a text that is found stands at its place
-same_text : (t : List ℕ) (all : List (List ℕ)) (n : ℕ) → position (bytes_eq t) all ≡ Some n → slice_get all n ≡ Some t
+pub same_text : (t : List ℕ) (all : List (List ℕ)) (n : ℕ) → position (bytes_eq t) all ≡ Some n → slice_get all n ≡ Some t
 same_text t all n e =
     let found = position-Some (bytes_eq t) all n [] e in
     slice_get-get_or all n [] found.0 ∙ ap Some (sym ((bytes_eq-Decides t (get_or all n [])).0 found.1))

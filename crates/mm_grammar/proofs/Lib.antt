@@ -1,4 +1,9 @@
 mod Keywords
+mod Rows
+mod Deciding
+mod Lowest
+mod Fitting
+pub mod Causes
 mod Known
 mod Scoping
 mod Answering
@@ -16,6 +21,8 @@ mod Going
 mod Taking
 mod Saying
 pub mod Readable
+mod Reaching
+pub mod Exact
 mod Floating
 pub mod Substituting
 mod Parting

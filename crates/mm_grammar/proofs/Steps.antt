@@ -17,7 +17,7 @@ use Rattle.mm_grammar.specs.Phrases.{Noted, Phrase, text_at, Reads, IsPlain, IsS
 use Rattle.mm_grammar.specs.Phrases as phrase
 use Rattle.mm_grammar.specs.Readable.{past_of}
 use Rattle.mm_grammar.proofs.Keywords.{Spells, spelled}
-use Rattle.mm_grammar.proofs.Writing.{past_push, one_token, one_phrase, Labelling, Stating, listing_begun, labelling_more, Begun, ReadAt}
+use Rattle.mm_grammar.proofs.Writing.{past_push, one_token, one_phrase, Labelling, Stating, listing_begun, labelling_more, Begun, IsPlaced, placed_more, ReadAt}
 use Rattle.mm_grammar.proofs.Symbols.{at_text_written}
 use Rattle.mm_grammar.proofs.Ends.{at_end_written}
 
@@ -43,6 +43,7 @@ module _ (bytes : List ℕ) (read : List Noted) (s : State (List Event)) (n : No
   at_proof_written mode.Theorem g reads = fine_if (nat_eq (length s.buffer) 0) _ _ Good (λ _. tt) (λ some. record {
     phrases = g.phrases;
     begun = g.begun ++ (n ∷ []);
+    placed = placed_more mode.Theorem s.begun g.begun n g.placed;
     done = one_token bytes (symbols s.context) read g.phrases g.begun g.done n;
     now = (
       record {
@@ -62,29 +63,33 @@ module _ (bytes : List ℕ) (read : List Noted) (s : State (List Event)) (n : No
   at_proof_written _ g reads = tt
 
   -- a statement begins
-  begun_so : (m k : Mode) (p : ℕ) (g : ReadAt bytes read s m) → Begun bytes k (begin s k p) g.phrases (g.begun ++ (n ∷ [])) → Good (begin s k p)
-  begun_so m k p g now = record { phrases = g.phrases; begun = g.begun ++ (n ∷ []); done = one_token bytes (symbols s.context) read g.phrases g.begun g.done n; now = now }
+  begun_so : (m k : Mode) (g : ReadAt bytes read s m) → IsPlaced k n.token.start (g.begun ++ (n ∷ [])) → Begun bytes k (begin s k n.token.start) g.phrases (g.begun ++ (n ∷ [])) → Good (begin s k n.token.start)
+  begun_so m k g placed now = record { phrases = g.phrases; begun = g.begun ++ (n ∷ []); placed = placed; done = one_token bytes (symbols s.context) read g.phrases g.begun g.done n; now = now }
 
-  unlabelled_written : (m k : Mode) (p : ℕ) → ReadAt bytes read s m → ((g : ReadAt bytes read s mode.Start) → Begun bytes k (begin s k p) g.phrases (g.begun ++ (n ∷ [])))
-      → IfFine (unlabelled s m k p) Good
+  placed_first : (k : Mode) (begun : List Noted) → begun ≡ [] → IsPlaced k n.token.start (n ∷ []) → IsPlaced k n.token.start (begun ++ (n ∷ []))
+  placed_first k begun none first = subst (λ b. IsPlaced k n.token.start (b ++ (n ∷ []))) (sym none) first
+
+  unlabelled_written : (m k : Mode) → IsPlaced k n.token.start (n ∷ []) → ReadAt bytes read s m
+      → ((g : ReadAt bytes read s mode.Start) → Begun bytes k (begin s k n.token.start) g.phrases (g.begun ++ (n ∷ []))) → IfFine (unlabelled s m k n.token.start) Good
   unfolding unlabelled
-  unlabelled_written mode.Start k p g now = begun_so mode.Start k p g (now g)
-  unlabelled_written mode.Labelled k p g now = tt
-  unlabelled_written _ k p g now = tt
+  unlabelled_written mode.Start k first g now = begun_so mode.Start k g (placed_first k g.begun g.now.0 first) (now g)
+  unlabelled_written mode.Labelled k first g now = tt
+  unlabelled_written _ k first g now = tt
 
-  labelled_written : (m k : Mode) (p : ℕ) → ReadAt bytes read s m → ((g : ReadAt bytes read s mode.Labelled) → Begun bytes k (begin s k p) g.phrases (g.begun ++ (n ∷ [])))
-      → IfFine (labelled s m k p) Good
+  labelled_written : (m k : Mode) → ((l : Noted) → IsPlaced k n.token.start (l ∷ (n ∷ []))) → ReadAt bytes read s m
+      → ((g : ReadAt bytes read s mode.Labelled) → Begun bytes k (begin s k n.token.start) g.phrases (g.begun ++ (n ∷ []))) → IfFine (labelled s m k n.token.start) Good
   unfolding labelled
-  labelled_written mode.Labelled k p g now = begun_so mode.Labelled k p g (now g)
-  labelled_written mode.Start k p g now = tt
-  labelled_written _ k p g now = tt
+  labelled_written mode.Labelled k second g now =
+      begun_so mode.Labelled k g (subst (λ b. IsPlaced k n.token.start (b ++ (n ∷ []))) (sym g.now.0.stands) (second g.now.0.name)) (now g)
+  labelled_written mode.Start k second g now = tt
+  labelled_written _ k second g now = tt
 
-  at_constants_written : (m : Mode) (deep : Bool) (p : ℕ) → ReadAt bytes read s m → Reads bytes n (codes "$c") → IfFine (at_constants s m deep p) Good
+  at_constants_written : (m : Mode) (deep : Bool) → ReadAt bytes read s m → Reads bytes n (codes "$c") → IfFine (at_constants s m deep n.token.start) Good
   unfolding at_constants
-  at_constants_written mode.Start deep p g reads = fine_if deep _ _ Good (λ _. tt) (λ _.
-      begun_so mode.Start mode.Constants p g (record { listed = []; listing = listing_begun bytes (codes "$c") (symbols s.context) g.begun n g.now.0 reads; said = g.now.1 }))
-  at_constants_written mode.Labelled deep p g reads = fine_if deep _ _ Good (λ _. tt) (λ _. tt)
-  at_constants_written _ deep p g reads = tt
+  at_constants_written mode.Start deep g reads = fine_if deep _ _ Good (λ _. tt) (λ _.
+      begun_so mode.Start mode.Constants g (placed_first mode.Constants g.begun g.now.0 refl) (record { listed = []; listing = listing_begun bytes (codes "$c") (symbols s.context) g.begun n g.now.0 reads; said = g.now.1 }))
+  at_constants_written mode.Labelled deep g reads = fine_if deep _ _ Good (λ _. tt) (λ _. tt)
+  at_constants_written _ deep g reads = tt
 
   at_open_written : (m : Mode) → s.mode ≡ m → ReadAt bytes read s m → Reads bytes n (codes "${") → IfFine (at_open put s m n.token.start) Good
   unfolding at_open symbols
@@ -93,6 +98,7 @@ module _ (bytes : List ℕ) (read : List Noted) (s : State (List Event)) (n : No
       subst (λ m. ReadAt bytes (read ++ (n ∷ [])) (record s { context = opened n.token.start ∷ s.context }) m) (sym e) (record {
         phrases = g.phrases ++ (q ∷ []);
         begun = [];
+        placed = tt;
         done = one_phrase bytes (symbols s.context) read g.phrases g.begun g.done q n (sym (ap (λ b. b ++ (n ∷ [])) g.now.0)) reads (All-nil (IsSymbol bytes (symbols s.context)));
         now = (refl, ap (λ past. opened n.token.start ∷ past) g.now.1 ∙ sym (past_push bytes g.phrases q));
       })
@@ -106,6 +112,7 @@ module _ (bytes : List ℕ) (read : List Noted) (s : State (List Event)) (n : No
       fine_if deep _ _ Good (λ _. subst (λ m. ReadAt bytes (read ++ (n ∷ [])) (record s { context = closed ∷ s.context }) m) (sym e) (record {
         phrases = g.phrases ++ (q ∷ []);
         begun = [];
+        placed = tt;
         done = one_phrase bytes (symbols s.context) read g.phrases g.begun g.done q n (sym (ap (λ b. b ++ (n ∷ [])) g.now.0)) reads (All-nil (IsSymbol bytes (symbols s.context)));
         now = (refl, ap (λ past. closed ∷ past) g.now.1 ∙ sym (past_push bytes g.phrases q));
       })) (λ _. tt)
@@ -121,20 +128,20 @@ module _ (bytes : List ℕ) (read : List Noted) (s : State (List Event)) (n : No
   unfolding step_by
   step_written word.Unknown spells g = tt
   step_written word.Inclusion spells g = tt
-  step_written word.Text spells g = at_text_written bytes read s n noted s.mode refl g spells n.token.start
+  step_written word.Text spells g = at_text_written bytes read s n noted s.mode refl g spells
   step_written word.End spells g = at_end_written bytes read s n spells s.mode g
   step_written word.Proof spells g = at_proof_written s.mode g spells
-  step_written word.Constants spells g = at_constants_written s.mode (look_back s.context (text_at bytes n)).deep n.token.start g spells
-  step_written word.Variables spells g = unlabelled_written s.mode mode.Variables n.token.start g
+  step_written word.Constants spells g = at_constants_written s.mode (look_back s.context (text_at bytes n)).deep g spells
+  step_written word.Variables spells g = unlabelled_written s.mode mode.Variables refl g
       (λ h. record { listed = []; listing = listing_begun bytes (codes "$v") (symbols s.context) h.begun n h.now.0 spells; said = h.now.1 })
-  step_written word.Distinct spells g = unlabelled_written s.mode mode.Distinct n.token.start g
+  step_written word.Distinct spells g = unlabelled_written s.mode mode.Distinct refl g
       (λ h. (([], listing_begun bytes (codes "$d") (symbols s.context) h.begun n h.now.0 spells), h.now.1))
   step_written word.Open spells g = at_open_written s.mode refl g spells
   step_written word.Close spells g = at_close_written s.mode refl (look_back s.context (text_at bytes n)).deep n.token.start g spells
-  step_written word.Float spells g = labelled_written s.mode mode.Float n.token.start g (stating_so (codes "$f") spells)
-  step_written word.Essential spells g = labelled_written s.mode mode.Essential n.token.start g (stating_so (codes "$e") spells)
-  step_written word.Axiom spells g = labelled_written s.mode mode.Axiom n.token.start g (stating_so (codes "$a") spells)
-  step_written word.Theorem spells g = labelled_written s.mode mode.Theorem n.token.start g (stating_so (codes "$p") spells)
+  step_written word.Float spells g = labelled_written s.mode mode.Float (λ l. refl) g (stating_so (codes "$f") spells)
+  step_written word.Essential spells g = labelled_written s.mode mode.Essential (λ l. refl) g (stating_so (codes "$e") spells)
+  step_written word.Axiom spells g = labelled_written s.mode mode.Axiom (λ l. refl) g (stating_so (codes "$a") spells)
+  step_written word.Theorem spells g = labelled_written s.mode mode.Theorem (λ l. refl) g (stating_so (codes "$p") spells)
 
 -- so does the next token
 pub kept : (bytes : List ℕ) (read : List Noted) (s : State (List Event)) (k : Token) → ReadAt bytes read s s.mode

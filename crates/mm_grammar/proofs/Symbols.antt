@@ -11,7 +11,7 @@ use Rattle.mm_plain.proofs.Fine.{IfFine, fine_if, fine_unless}
 use Rattle.std.proofs.lemmas.Bool.{or_parts}
 use Rattle.mm_grammar.specs.Phrases.{Noted, Symbol, text_at, IsPlain, IsSymbol}
 use Rattle.mm_grammar.proofs.Known.{active_named, declared_named}
-use Rattle.mm_grammar.proofs.Writing.{one_token, one_text, Stating, listing_more, stating_more, proving_more, declaring_more, Begun, ReadAt}
+use Rattle.mm_grammar.proofs.Writing.{one_token, one_text, Stating, listing_more, stating_more, proving_more, declaring_more, Begun, FirstAt, placed_more, ReadAt}
 
 no_longer : (k : ℕ) → nat_lt most_label k ≡ false → k ≤ most_label
 no_longer k h = grind arith
@@ -33,9 +33,9 @@ module _ (bytes : List ℕ) (read : List Noted) (s : State (List Event)) (n : No
   abbrev Good : State (List Event) → Type 0
   Good t = ReadAt bytes (read ++ (n ∷ [])) t t.mode
 
-  a_label_written : ReadAt bytes read s mode.Start → IsPlain bytes n → (p : ℕ) → IfFine (a_label s (look_back s.context (text_at bytes n)) (text_at bytes n) p) Good
+  a_label_written : ReadAt bytes read s mode.Start → IsPlain bytes n → IfFine (a_label s (look_back s.context (text_at bytes n)) (text_at bytes n) n.token.start) Good
   unfolding a_label
-  a_label_written g plain p =
+  a_label_written g plain =
       let t : List ℕ = text_at bytes n in
       let a : Answers = look_back s.context t in
       fine_if (is_bad_label t) _ _ Good (λ _. tt) (λ fit.
@@ -43,6 +43,7 @@ module _ (bytes : List ℕ) (read : List Noted) (s : State (List Event)) (n : No
       fine_if (nat_lt most_label (length t)) _ _ Good (λ _. tt) (λ short. record {
         phrases = g.phrases;
         begun = g.begun ++ (n ∷ []);
+        placed = subst (λ b. FirstAt n.token.start (b ++ (n ∷ []))) (sym g.now.0) refl;
         done = one_token bytes (symbols s.context) read g.phrases g.begun g.done n;
         now = (record { name = n; is = record { fit = fit; short = no_longer (length t) short }; text = refl; comment = noted; stands = ap (λ b. b ++ (n ∷ [])) g.now.0 }, g.now.1);
       })))
@@ -52,6 +53,7 @@ module _ (bytes : List ℕ) (read : List Noted) (s : State (List Event)) (n : No
   grown m e g k now = subst (λ j. ReadAt bytes (read ++ (n ∷ [])) (take_symbol s k) j) (sym e) (record {
     phrases = g.phrases;
     begun = g.begun ++ (n ∷ []);
+    placed = placed_more m s.begun g.begun n g.placed;
     done = one_token bytes (symbols s.context) read g.phrases g.begun g.done n;
     now = now;
   })
@@ -98,6 +100,7 @@ module _ (bytes : List ℕ) (read : List Noted) (s : State (List Event)) (n : No
       subst (λ m. ReadAt bytes (read ++ (n ∷ [])) (record s { context = constant t a.number ∷ s.context; buffer = s.buffer ++ a.number ∷ [] }) m) (sym e) (record {
         phrases = g.phrases;
         begun = g.begun ++ (n ∷ []);
+        placed = placed_more mode.Constants s.begun g.begun n g.placed;
         done = one_text bytes (symbols s.context) (read ++ (n ∷ [])) g.phrases (g.begun ++ (n ∷ [])) t (one_token bytes (symbols s.context) read g.phrases g.begun g.done n);
         now = declaring_more bytes (codes "$c") constant s.context g.phrases s.buffer g.begun x refl (record { plain = plain; named = declared_named s.context t }) (has_room (length s.buffer) room) g.now;
       }))))
@@ -114,6 +117,7 @@ module _ (bytes : List ℕ) (read : List Noted) (s : State (List Event)) (n : No
       subst (λ m. ReadAt bytes (read ++ (n ∷ [])) (record s { context = variable t a.number ∷ s.context; buffer = s.buffer ++ a.number ∷ [] }) m) (sym e) (record {
         phrases = g.phrases;
         begun = g.begun ++ (n ∷ []);
+        placed = placed_more mode.Variables s.begun g.begun n g.placed;
         done = one_text bytes (symbols s.context) (read ++ (n ∷ [])) g.phrases (g.begun ++ (n ∷ [])) t (one_token bytes (symbols s.context) read g.phrases g.begun g.done n);
         now = declaring_more bytes (codes "$v") variable s.context g.phrases s.buffer g.begun x refl (record { plain = plain; named = declared_named s.context t }) (has_room (length s.buffer) room) g.now;
       }))))
@@ -124,22 +128,23 @@ module _ (bytes : List ℕ) (read : List Noted) (s : State (List Event)) (n : No
       → Stating bytes keyword s.label s.described (symbols s.context) (s.buffer ++ k ∷ []) (begun ++ (n ∷ []))
   stated keyword begun st k is room = stating_more bytes keyword s.label s.described (symbols s.context) s.buffer begun (record { place = n; number = k }) st is room
 
-  pub at_text_written : (m : Mode) → s.mode ≡ m → ReadAt bytes read s m → IsPlain bytes n → (p : ℕ) → IfFine (at_text put s m (look_back s.context (text_at bytes n)) (text_at bytes n) p) Good
+  pub at_text_written : (m : Mode) → s.mode ≡ m → ReadAt bytes read s m → IsPlain bytes n → IfFine (at_text put s m (look_back s.context (text_at bytes n)) (text_at bytes n) n.token.start) Good
   unfolding at_text
-  at_text_written mode.Start e g plain p = a_label_written g plain p
-  at_text_written mode.Labelled e g plain p = tt
-  at_text_written mode.Constants e g plain p = a_constant_written e g plain p
-  at_text_written mode.Variables e g plain p = a_variable_written e g plain p
-  at_text_written mode.Distinct e g plain p =
+  at_text_written mode.Start e g plain = a_label_written g plain
+  at_text_written mode.Labelled e g plain = tt
+  at_text_written mode.Constants e g plain = a_constant_written e g plain n.token.start
+  at_text_written mode.Variables e g plain = a_variable_written e g plain n.token.start
+  at_text_written mode.Distinct e g plain =
       a_distinct_written mode.Distinct e g plain
-      (λ k is room. let x : Symbol = record { place = n; number = k } in ((g.now.0.0 ++ x ∷ [], listing_more bytes (codes "$d") (symbols s.context) s.buffer g.now.0.0 g.begun x g.now.0.1 is room), g.now.1)) p
-  at_text_written mode.Float e g plain p = a_float_written mode.Float e g plain (λ k is room. (stated (codes "$f") g.begun g.now.0 k is room, g.now.1)) p
-  at_text_written mode.Essential e g plain p = a_symbol_written mode.Essential e g plain (λ k is room. (stated (codes "$e") g.begun g.now.0 k is room, g.now.1)) p
-  at_text_written mode.Axiom e g plain p = a_symbol_written mode.Axiom e g plain (λ k is room. (stated (codes "$a") g.begun g.now.0 k is room, g.now.1)) p
-  at_text_written mode.Theorem e g plain p = a_symbol_written mode.Theorem e g plain (λ k is room. (stated (codes "$p") g.begun g.now.0 k is room, g.now.1)) p
-  at_text_written mode.Proof e g plain p = subst (λ m. ReadAt bytes (read ++ (n ∷ [])) s m) (sym e) (record {
+      (λ k is room. let x : Symbol = record { place = n; number = k } in ((g.now.0.0 ++ x ∷ [], listing_more bytes (codes "$d") (symbols s.context) s.buffer g.now.0.0 g.begun x g.now.0.1 is room), g.now.1)) n.token.start
+  at_text_written mode.Float e g plain = a_float_written mode.Float e g plain (λ k is room. (stated (codes "$f") g.begun g.now.0 k is room, g.now.1)) n.token.start
+  at_text_written mode.Essential e g plain = a_symbol_written mode.Essential e g plain (λ k is room. (stated (codes "$e") g.begun g.now.0 k is room, g.now.1)) n.token.start
+  at_text_written mode.Axiom e g plain = a_symbol_written mode.Axiom e g plain (λ k is room. (stated (codes "$a") g.begun g.now.0 k is room, g.now.1)) n.token.start
+  at_text_written mode.Theorem e g plain = a_symbol_written mode.Theorem e g plain (λ k is room. (stated (codes "$p") g.begun g.now.0 k is room, g.now.1)) n.token.start
+  at_text_written mode.Proof e g plain = subst (λ m. ReadAt bytes (read ++ (n ∷ [])) s m) (sym e) (record {
     phrases = g.phrases;
     begun = g.begun ++ (n ∷ []);
+    placed = placed_more mode.Proof s.begun g.begun n g.placed;
     done = one_token bytes (symbols s.context) read g.phrases g.begun g.done n;
     now = (proving_more bytes s.label s.described (symbols s.context) s.buffer s.proof g.begun n g.now.0 plain, g.now.1);
   })

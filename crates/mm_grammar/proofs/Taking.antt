@@ -21,7 +21,7 @@ use Rattle.mm_plain.proofs.Fine.{AllOff}
 use Rattle.mm_grammar.specs.Phrases.{Noted, Symbol, places, numbers, text_at, IsPlain, IsSymbol}
 use Rattle.mm_grammar.specs.Rules.{HasFloat, IsTyped, Differ, IsNewConstant, IsNewVariable, FollowsRules}
 use Rattle.mm_grammar.proofs.Answering.{label_now}
-use Rattle.mm_grammar.proofs.Going.{at, ReadsTo, go, stepped, plain_word}
+use Rattle.mm_grammar.proofs.Going.{at, Goal, ReadsTo, go, stepped, plain_word}
 use Rattle.mm_grammar.proofs.Numbering.{known_now, unknown_now, declared_now, variable_now}
 use Rattle.mm_grammar.proofs.Scoping.{in_scope, active_in_scope, has_float, floated_in_scope, is_constant, constant_in}
 
@@ -68,7 +68,7 @@ first_later : (past : List Event) (buffer : List ℕ) (n : ℕ) (xs : List Symbo
 first_later past [] n xs = tt
 first_later past (y ∷ ys) n xs = tt
 
-typed_live : (past : List Event) (n : ℕ) → IsTyped past n → not (is_constant_of past n || is_active_in past n) ≡ false
+pub typed_live : (past : List Event) (n : ℕ) → IsTyped past n → not (is_constant_of past n || is_active_in past n) ≡ false
 typed_live past n (inl c) = ap not (or_left (is_constant_of past n) (is_active_in past n) (constant_in past n c))
 typed_live past n (inr v) = ap not (or_right (is_constant_of past n) (is_active_in past n) (active_in_scope past n v.0))
 
@@ -104,9 +104,9 @@ inactive_now past t n inactive e = by (position (bytes_eq t) (symbols past)) e
     by (Some k) f = (no_active k f, no_constant k f)
 
 -- where a statement is begun, and its tokens lead on to some events
-module _ (bytes : List ℕ) (past : List Event) (begun : ℕ) (label : List ℕ) (described : Option Span) (proof : ℕ) (rest : List Noted) (final : List Event) where
+module _ (bytes : List ℕ) (past : List Event) (begun : ℕ) (label : List ℕ) (described : Option Span) (proof : ℕ) (rest : List Noted) (final : Goal) where
   -- a symbol that is used
-  used : (m : Mode) (buffer : List ℕ) (x : Symbol) (t : State (List Event)) → IsSymbol bytes (symbols past) x
+  pub used : (m : Mode) (buffer : List ℕ) (x : Symbol) (t : State (List Event)) → IsSymbol bytes (symbols past) x
       → at_text put (at m past begun label described buffer proof x.place.comment) m (known_as past (text_at bytes x.place) (Some x.number)) (text_at bytes x.place) x.place.token.start ≡ Ok t
       → step put look_back bytes (at m past begun label described buffer proof x.place.comment) x.place.token ≡ Ok t
   unfolding step_by
@@ -189,7 +189,7 @@ abbrev pub says : List ℕ → (List ℕ → ℕ → Event) → Symbol → Event
 says bytes event x = event (text_at bytes x.place) x.number
 
 -- where a declaration is begun
-module _ (bytes : List ℕ) (begun : ℕ) (label : List ℕ) (described : Option Span) (proof : ℕ) (rest : List Noted) (final : List Event) where
+module _ (bytes : List ℕ) (begun : ℕ) (label : List ℕ) (described : Option Span) (proof : ℕ) (rest : List Noted) (final : Goal) where
   declared : (m : Mode) (past : List Event) (buffer : List ℕ) (x : Symbol) (t : State (List Event)) → IsPlain bytes x.place
       → at_text put (at m past begun label described buffer proof x.place.comment) m (look_back past (text_at bytes x.place)) (text_at bytes x.place) x.place.token.start ≡ Ok t
       → step put look_back bytes (at m past begun label described buffer proof x.place.comment) x.place.token ≡ Ok t

@@ -185,8 +185,51 @@ BegunAs bytes mode.Proof past label described buffer from ps begun = Proving byt
 abbrev pub Begun : List ℕ → Mode → State (List Event) → List Phrase → List Noted → Type 0
 Begun bytes m s ps begun = BegunAs bytes m s.context s.label s.described s.buffer s.proof ps begun
 
+-- where its first token stands, or its second
+abbrev pub FirstAt : ℕ → List Noted → Type 0
+FirstAt p [] = ⊥
+FirstAt p (n ∷ ns) = n.token.start ≡ p
+
+abbrev pub SecondAt : ℕ → List Noted → Type 0
+SecondAt p [] = ⊥
+SecondAt p (n ∷ ns) = FirstAt p ns
+
+-- the label alone, or the keyword, stands there
+abbrev pub IsPlaced : Mode → ℕ → List Noted → Type 0
+IsPlaced mode.Start p begun = Unit {0}
+IsPlaced mode.Labelled p begun = FirstAt p begun
+IsPlaced mode.Constants p begun = FirstAt p begun
+IsPlaced mode.Variables p begun = FirstAt p begun
+IsPlaced mode.Distinct p begun = FirstAt p begun
+IsPlaced mode.Float p begun = SecondAt p begun
+IsPlaced mode.Essential p begun = SecondAt p begun
+IsPlaced mode.Axiom p begun = SecondAt p begun
+IsPlaced mode.Theorem p begun = SecondAt p begun
+IsPlaced mode.Proof p begun = SecondAt p begun
+
+first_more : (p : ℕ) (begun : List Noted) (n : Noted) → FirstAt p begun → FirstAt p (begun ++ (n ∷ []))
+first_more p [] n h = absurd h
+first_more p (x ∷ xs) n h = h
+
+second_more : (p : ℕ) (begun : List Noted) (n : Noted) → SecondAt p begun → SecondAt p (begun ++ (n ∷ []))
+second_more p [] n h = absurd h
+second_more p (x ∷ xs) n h = first_more p xs n h
+
+pub placed_more : (m : Mode) (p : ℕ) (begun : List Noted) (n : Noted) → IsPlaced m p begun → IsPlaced m p (begun ++ (n ∷ []))
+placed_more mode.Start p begun n h = tt
+placed_more mode.Labelled p begun n h = first_more p begun n h
+placed_more mode.Constants p begun n h = first_more p begun n h
+placed_more mode.Variables p begun n h = first_more p begun n h
+placed_more mode.Distinct p begun n h = first_more p begun n h
+placed_more mode.Float p begun n h = second_more p begun n h
+placed_more mode.Essential p begun n h = second_more p begun n h
+placed_more mode.Axiom p begun n h = second_more p begun n h
+placed_more mode.Theorem p begun n h = second_more p begun n h
+placed_more mode.Proof p begun n h = second_more p begun n h
+
 pub record ReadAt (bytes : List ℕ) (read : List Noted) (s : State (List Event)) (m : Mode) : Type 0 where
   pub phrases : List Phrase
   pub begun : List Noted
+  pub placed : IsPlaced m s.begun begun
   pub done : IsDone bytes (symbols s.context) read phrases begun
   pub now : Begun bytes m s phrases begun

@@ -31,7 +31,7 @@ abbrev Whole : List ℕ → List Noted → List Event → Type 0
 Whole bytes read past = ReadAt bytes read (record nothing_read { context = past }) mode.Start
 
 whole_begun : (bytes : List ℕ) (read : List Noted) (s : State (List Event)) (m : Mode) → ReadAt bytes read s m → IfFine (unless_begun s m) (Whole bytes read)
-whole_begun bytes read s mode.Start g = record { phrases = g.phrases; begun = g.begun; done = g.done; now = g.now }
+whole_begun bytes read s mode.Start g = record { phrases = g.phrases; begun = g.begun; placed = tt; done = g.done; now = g.now }
 whole_begun bytes read s _ g = tt
 
 whole_open : (bytes : List ℕ) (read : List Noted) (s : State (List Event)) (ps : List ℕ) → ReadAt bytes read s s.mode → IfFine (unless_open s ps) (Whole bytes read)
@@ -87,14 +87,14 @@ module _ (bytes : List ℕ) where
   read_on (Err f) g = tt
 
   nothing_written : ReadAt text [] nothing_read mode.Start
-  nothing_written = record { phrases = []; begun = []; done = none_done text (symbols []); now = (refl, refl) }
+  nothing_written = record { phrases = []; begun = []; placed = tt; done = none_done text (symbols []); now = (refl, refl) }
 
   database_read : IfFine (database_of bytes) (IsAllRead bytes)
   unfolding database_of
   database_read =
       read_on (read_from put look_back text nothing_read (pieces_of text))
-      (fine_noted text (λ read t. ReadAt text read t t.mode) (λ read t c g. record { phrases = g.phrases; begun = g.begun; done = g.done; now = g.now })
-      (λ read t g. record { phrases = g.phrases; begun = g.begun; done = g.done; now = g.now }) (kept text) (pieces_of text) [] nothing_read nothing_written)
+      (fine_noted text (λ read t. ReadAt text read t t.mode) (λ read t c g. record { phrases = g.phrases; begun = g.begun; placed = g.placed; done = g.done; now = g.now })
+      (λ read t g. record { phrases = g.phrases; begun = g.begun; placed = g.placed; done = g.done; now = g.now }) (kept text) (pieces_of text) [] nothing_read nothing_written)
 
   of_read : (past : List Event) → is_read bytes ≡ true → events_of bytes ≡ past → IsAllRead bytes past → IsWritten bytes
   of_read past ok e r =

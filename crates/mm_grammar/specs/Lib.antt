@@ -3,3 +3,5 @@ pub mod Rules
 pub mod Readable
 pub mod Written
 pub mod Apart
+pub mod Beginnings
+pub mod Faults

@@ -1,6 +1,6 @@
 //! What holds of the tokens, the declarations and the statements of each database.
 
-ghost use Rattle.std.specs.Prelude.{◌≡◌, ℕ, true, List, [], All, Ok};
+ghost use Rattle.std.specs.Prelude.{◌≡◌, ℕ, true, List, [], All, Ok, Err};
 ghost use Rattle.mm_scope.specs.Contents.{is_read, events_of, labels_of, stated_at, statements_of};
 ghost use Rattle.mm_scope.specs.Databases.{database_of};
 ghost use Rattle.mm_scope.specs.Events.{open_blocks};
@@ -12,6 +12,8 @@ ghost use Rattle.mm_grammar.specs.Readable.{IsReadable, past_of};
 ghost use Rattle.mm_grammar.specs.Written.{IsWritten};
 ghost use Rattle.mm_grammar.specs.Rules.{FollowsRules};
 ghost use Rattle.mm_grammar.specs.Apart.{IsNoSymbol};
+ghost use Rattle.mm_grammar.specs.Faults.{HasCause};
+ghost use Rattle.mm_scope.specs.declared.fault.ReadFault.{ReadFault};
 
 use mm_stack::assertions_substitute;
 
@@ -27,6 +29,17 @@ pub fn statements_are_the_tokens(bytes: &[u8])
 /// what they say. So these are exactly the files that are read.
 pub fn files_of_statements_are_read(bytes: &[u8])
     ensures { (phrases : List Phrase) → IsReadable bytes.now phrases → database_of bytes.now ≡ Ok (past_of bytes.now phrases) }
+{
+    let _ = bytes;
+}
+
+/// A file is refused exactly where a fault has its cause, and with that fault. It shows at a token: those before it are of
+/// statements, and of the beginning of one, that are as the language asks, so that none shows earlier; and at the token no
+/// fault of a lower number has its cause. Or it shows where no token has one: a bad byte; else that the file is too long,
+/// and at the file's end an open comment, else an open block, else a statement that isn't ended.
+pub fn faults_have_causes(bytes: &[u8])
+    ensures caused { (fault : ReadFault) → database_of bytes.now ≡ Err fault → HasCause bytes.now fault }
+    ensures exact { (fault : ReadFault) → HasCause bytes.now fault → database_of bytes.now ≡ Err fault }
 {
     let _ = bytes;
 }

@@ -6,6 +6,6 @@ mod laws;
 mod tests;
 
 pub use laws::{
-    assertions_of_databases_substitute, files_of_statements_are_read, labels_are_no_symbols,
-    rules_are_followed, statements_are_the_tokens,
+    assertions_of_databases_substitute, faults_have_causes, files_of_statements_are_read,
+    labels_are_no_symbols, rules_are_followed, statements_are_the_tokens,
 };
