@@ -16,8 +16,6 @@ mod store;
 mod sure_files;
 mod sure_sink;
 mod sure_source;
-#[cfg(test)]
-mod tests;
 mod unread;
 
 pub use fault::{Failed, FilesFault};

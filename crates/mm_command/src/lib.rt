@@ -13,8 +13,6 @@ mod number;
 mod qualifier;
 mod step;
 mod take;
-#[cfg(test)]
-mod tests;
 mod words;
 
 pub use command::{Command, StepWord};

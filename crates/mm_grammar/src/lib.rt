@@ -2,8 +2,6 @@
 #![tactic(auto)]
 
 mod laws;
-#[cfg(test)]
-mod tests;
 
 pub use laws::{
     assertions_of_databases_substitute, faults_have_causes, files_of_statements_are_read,

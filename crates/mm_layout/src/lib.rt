@@ -3,8 +3,6 @@
 
 mod laws;
 mod layout;
-#[cfg(test)]
-mod tests;
 
 pub use laws::{lines_are_filled, texts_are_clean, tokens_come_back};
 pub use layout::{Layout, MOST_COLUMNS};

@@ -8,8 +8,6 @@ mod cut;
 mod front;
 mod next;
 mod reader;
-#[cfg(test)]
-mod tests;
 
 pub use next::{Next, Stopped};
 pub use reader::LineReader;

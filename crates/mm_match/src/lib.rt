@@ -10,8 +10,6 @@ mod open;
 mod row;
 mod search;
 mod table;
-#[cfg(test)]
-mod tests;
 mod values;
 
 pub use matched::{Matched, matching};

@@ -1,7 +1,6 @@
 //! A session whose proof is as high as a proof may be.
 
-use crate::session::{files_with, run_over};
-use mm_base::SureSink;
+use crate::session::{files_with, told};
 use std::test::Fail;
 
 /// A statement that follows from itself.
@@ -31,9 +30,8 @@ fn a_proof_is_2000_steps_high_at_most(rt: HostRuntime) -> Result<(), Fail> {
     }
     input.extend_from_slice(b"SAVE NEW_PROOF\n")?;
     let mut files = files_with(alloc, b"ladder.mm", LADDER)?;
-    let mut screen = SureSink::new(alloc, 200_000)?;
-    let end = run_over(alloc, "", input.as_slice(), &mut files, &mut screen)?;
-    assert_eq!(rt; end.status, 1);
-    assert!(rt; screen.held().ends_with(LAST));
+    let (status, text) = told(alloc, &mut files, input.as_slice())?;
+    assert_eq!(rt; status, 1);
+    assert!(rt; text.ends_with(LAST));
     Ok(())
 }

@@ -1,17 +1,10 @@
-//! Whole sessions of `mmpa`, with the databases that they read: what the layers say together.
+//! Tests over the whole library: a session, the failing outside, the height of a proof, and calls that take memory and
+//! that no session reaches. Sessions of the built program are the golden transcripts of the repository.
 #![tactic(auto)]
 
 #[cfg(test)]
-mod assigning;
-#[cfg(test)]
 mod calls;
 pub mod databases;
-#[cfg(test)]
-mod faults;
-#[cfg(test)]
-mod first_path;
-#[cfg(test)]
-mod guards;
 #[cfg(test)]
 mod height;
 #[cfg(test)]

@@ -1,58 +1,27 @@
 //! How a test runs a session.
 
-use mm_base::{Files, Memory, Sink, SureFiles, SureSink, SureSource, is_name};
-use mm_session::{SessionEnd, Word, run_session};
+use mm_base::{Files, Memory, SureFiles, SureSink, SureSource, is_name};
+use mm_session::run_session;
 use std::alloc::Global;
 use std::test::Fail;
 
 /// How many bytes of a transcript a test keeps.
-pub const ROOM: u64 = 20_000;
-
-/// The commands, one a word.
-pub fn commands(alloc: Global, lines: &str) -> Result<Vec<Word>, Memory> {
-    let mut words = Vec::new(alloc);
-    for line in lines.lines() {
-        words.push(Word::new(alloc, line.as_bytes())?)?;
-    }
-    Ok(words)
-}
-
-/// Runs these words and then these lines of input over these files and this screen.
-pub fn run_over<F: Files, K: Sink>(
-    alloc: Global,
-    words: &str,
-    input: &[u8],
-    files: &mut F,
-    screen: &mut K,
-) -> Result<SessionEnd, Memory> {
-    let words = commands(alloc, words)?;
-    let mut input = SureSource::new(alloc, input)?;
-    Ok(run_session(alloc, &words, files, &mut input, screen))
-}
-
-/// Runs the words over these files and this screen, with no input.
-pub fn run<F: Files, K: Sink>(
-    alloc: Global,
-    words: &str,
-    files: &mut F,
-    screen: &mut K,
-) -> Result<SessionEnd, Memory> {
-    run_over(alloc, words, b"", files, screen)
-}
+pub const ROOM: u64 = 200_000;
 
 /// The status of a session of these lines of input over these files, and what it writes.
 pub fn told<F: Files>(alloc: Global, files: &mut F, input: &[u8]) -> Result<(u8, Vec<u8>), Fail> {
     let mut screen = SureSink::new(alloc, ROOM)?;
-    let end = run_over(alloc, "", input, files, &mut screen)?;
+    let mut input = SureSource::new(alloc, input)?;
+    let end = run_session(alloc, &[], files, &mut input, &mut screen);
     Ok((end.status, screen.held().to_vec(alloc)?))
 }
 
-/// The lines that a transcript shows behind its prompts, LF between them. Behind the last prompt of a session that ends
+/// The lines that a transcript shows after its prompts, LF between them. After the last prompt of a session that ends
 /// with its input there is none.
 pub fn typed(alloc: Global, transcript: &str) -> Result<Vec<u8>, Memory> {
     let mut input = Vec::new(alloc);
     for line in transcript.lines() {
-        if let Some(command) = behind_prompt(line) {
+        if let Some(command) = after_prompt(line) {
             if !input.is_empty() {
                 input.push(b'\n')?;
             }
@@ -63,7 +32,7 @@ pub fn typed(alloc: Global, transcript: &str) -> Result<Vec<u8>, Memory> {
 }
 
 /// The rest of a line that begins with a prompt.
-fn behind_prompt(line: &str) -> Option<&str> {
+fn after_prompt(line: &str) -> Option<&str> {
     line.strip_prefix("MM> ").or(line.strip_prefix("MM-PA> "))
 }
 

@@ -79,36 +79,3 @@ impl Database {
         self.says(id, b"(Proof modification is discouraged.)")
     }
 }
-
-#[cfg(test)]
-mod tests {
-    use super::*;
-    use std::test::Fail;
-
-    const GUARDED: &[u8] = b"$c wff a |- $.
-plain $a wff a $.
-$( Old. (New usage is discouraged.) $)
-$( Kept. (Proof modification\n  \tis discouraged.) $) kept $a |- a $.
-$( (New\nusage is  discouraged.) $) old $p |- a $= kept $.
-";
-
-    #[test]
-    fn tells_guards(rt: HostRuntime) -> Result<(), Fail> {
-        let bytes = Vec::from_slice(rt.alloc(), GUARDED)?;
-        let database = Database::read(rt.alloc(), bytes).ok().ok_or("refused")?;
-        assert_eq!(rt; database.count(), 3);
-        assert_eq!(rt; database.description(StmtId(0)), None);
-        assert!(rt; !database.usage_guarded(StmtId(0)));
-        let content = database.description(StmtId(1)).ok_or("no comment")?;
-        let text = &database.bytes()[content.start as usize..content.end as usize];
-        assert_eq!(rt;
-            text,
-            b" Kept. (Proof modification\n  \tis discouraged.) ".as_slice()
-        );
-        assert!(rt; !database.usage_guarded(StmtId(1)));
-        assert!(rt; database.change_guarded(StmtId(1)));
-        assert!(rt; database.usage_guarded(StmtId(2)));
-        assert!(rt; !database.change_guarded(StmtId(2)));
-        Ok(())
-    }
-}

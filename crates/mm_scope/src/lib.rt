@@ -13,8 +13,6 @@ mod laws;
 mod mode;
 mod reader;
 mod reading;
-#[cfg(test)]
-mod tests;
 
 pub use database::{Database, StmtId, Sym};
 pub use fault::ReadFault;

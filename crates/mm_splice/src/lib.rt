@@ -7,8 +7,6 @@
 mod fault;
 mod laws;
 mod replace;
-#[cfg(test)]
-mod tests;
 mod text;
 
 pub use fault::SpliceFault;

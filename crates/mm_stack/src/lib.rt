@@ -14,11 +14,7 @@ mod machine;
 mod outcome;
 mod stack;
 mod step;
-#[cfg(test)]
-mod tests;
 mod values;
-#[cfg(test)]
-mod verdicts;
 
 pub use accept::verify;
 pub use laws::assertions_substitute;

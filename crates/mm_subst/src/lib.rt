@@ -9,8 +9,6 @@ mod stated;
 mod string;
 mod subst;
 mod symbol;
-#[cfg(test)]
-mod tests;
 
 pub use brackets::{Bracket, Brackets, balanced};
 pub use fault::TooLongOrMemory;

@@ -112,35 +112,3 @@ impl Layers {
         }
     }
 }
-
-#[cfg(test)]
-mod tests {
-    use super::*;
-    use crate::laws::looking_back_finds_what_is_kept;
-    use std::test::Fail;
-
-    #[test]
-    fn earlier_moments_stay(rt: HostRuntime) -> Result<(), Fail> {
-        let mut layers = Layers::new(rt.alloc());
-        layers.push(3)?;
-        layers.open()?;
-        layers.push(5)?;
-        layers.push(8)?;
-        layers.note()?;
-        layers.close();
-        layers.push(4)?;
-        layers.note()?;
-        layers.close();
-        assert_eq!(rt; layers.moments(), 2);
-        assert_eq!(rt; layers.now().to_vec(rt.alloc())?.as_slice(), [].as_slice());
-        let inner = layers.at(0);
-        assert_eq!(rt; inner.to_vec(rt.alloc())?.as_slice(), [3, 5, 8].as_slice());
-        assert!(rt; inner.contains(3));
-        assert!(rt; !inner.contains(4));
-        let (older, newest) = layers.at(1).split_last().ok_or("empty")?;
-        assert_eq!(rt; newest, 4);
-        assert_eq!(rt; older.to_vec(rt.alloc())?.as_slice(), [3].as_slice());
-        looking_back_finds_what_is_kept();
-        Ok(())
-    }
-}

@@ -12,8 +12,6 @@ mod pair;
 mod parted;
 mod partings;
 mod table;
-#[cfg(test)]
-mod tests;
 mod trail;
 
 pub use gathered::Gathered;

@@ -171,39 +171,3 @@ pub fn pairs_differ(parted: &Parted, variables: &[u32])
     let _ = parted;
     let _ = variables;
 }
-
-#[cfg(test)]
-mod tests {
-    use super::*;
-    use std::test::Fail;
-
-    #[test]
-    fn groups_part_their_variables(rt: HostRuntime) -> Result<(), Fail> {
-        let mut parted = Parted::new(rt.alloc());
-        parted.push(rt.alloc(), &[1, 2, 4])?;
-        parted.push(rt.alloc(), &[2, 3])?;
-        assert_eq!(rt; parted.len(), 2);
-        assert!(rt; parted.are_distinct(4, 1));
-        assert!(rt; !parted.are_distinct(1, 3));
-        let variables = [3, 1, 2];
-        let pairs = parted.pairs_among(rt.alloc(), &variables)?;
-        let wanted = [
-            Pair {
-                first: 3,
-                second: 2,
-            },
-            Pair {
-                first: 1,
-                second: 2,
-            },
-        ];
-        assert_eq!(rt; pairs.as_slice(), wanted.as_slice());
-        pairs_stand_in_order(&parted, &variables, 3, 2);
-        pairs_differ(&parted, &variables);
-        parted.truncate(1);
-        assert_eq!(rt; parted.len(), 1);
-        assert!(rt; !parted.are_distinct(2, 3));
-        assert!(rt; parted.are_distinct(2, 1));
-        Ok(())
-    }
-}

@@ -13,6 +13,7 @@ use files::RealFiles;
 use input::RealInput;
 use mm_session::run_session;
 use screen::Screen;
+use std::io;
 use std::process::ExitCode;
 
 const USAGE: &str = "\
@@ -23,13 +24,20 @@ Each COMMAND is one word of the command line, as in
     mmpa \"READ demo0.mm\" \"VERIFY PROOF th1\"
 Then the lines of the input are commands, up to EXIT or its end.
 
-READ FILE             reads a database
-VERIFY PROOF LABEL    verifies one proof
-PROVE LABEL           takes a proof in hand
-SAVE NEW_PROOF        saves it into the database
-WRITE SOURCE FILE     writes the database
-EXIT                  leaves the proof in hand, or ends the session
+";
 
+/// Each command that is built, and what it does.
+const COMMANDS: [&str; 7] = [
+    "READ FILE                      reads a database",
+    "VERIFY PROOF LABEL             verifies the proof of a theorem",
+    "WRITE SOURCE FILE              writes the database",
+    "PROVE LABEL [/OVERRIDE]        takes a proof in hand that is ? alone",
+    "ASSIGN LAST LABEL [/OVERRIDE]  makes its last unknown step known, by a statement",
+    "SAVE NEW_PROOF [/OVERRIDE]     saves the proof into the database",
+    "EXIT [/FORCE], QUIT [/FORCE]   leaves the proof in hand, or ends the session",
+];
+
+const STATUSES: &str = "
 Keywords have no case and may be shortened. The status is 0 where all went well,
 1 where a command was refused, 3 where the input failed, 4 where the screen
 failed, 5 where memory ran out, 6 where files failed too often and 7 where the
@@ -46,8 +54,8 @@ const SCREEN_FAILED: u8 = 4;
 
 fn main(rt: HostRuntime) -> ExitCode {
     match read_arguments(&rt) {
-        Arguments::Help => show(&rt, USAGE),
-        Arguments::Version => show(&rt, VERSION),
+        Arguments::Help => status_after(show_help(&rt)),
+        Arguments::Version => status_after(rt.print(VERSION)),
         Arguments::Unread => {
             let _ = rt.eprintln("mmpa: the arguments can't be read");
             ExitCode::from(OUT_OF_MEMORY)
@@ -62,9 +70,18 @@ fn main(rt: HostRuntime) -> ExitCode {
     }
 }
 
-/// Writes a fixed text.
-fn show(rt: &impl Print, text: &str) -> ExitCode {
-    match rt.print(text) {
+/// Writes how the program is used.
+fn show_help(rt: &impl Print) -> io::Result<()> {
+    rt.print(USAGE)?;
+    for command in COMMANDS {
+        rt.println(command)?;
+    }
+    rt.print(STATUSES)
+}
+
+/// The status after a fixed text.
+fn status_after(written: io::Result<()>) -> ExitCode {
+    match written {
         Ok(()) => ExitCode::SUCCESS,
         Err(_) => ExitCode::from(SCREEN_FAILED),
     }

@@ -1,4 +1,0 @@
-use Rattle.mm_base.proofs.tests.a_node_is_made.Given as goal
-
-abbrev pub ghosts-made_in : goal.ghosts-made_in
-ghosts-made_in a = record { name = a.blank.name; parts = a.blank.parts }

@@ -1,0 +1,1 @@
+$c a $. $v x $. l $f a x $. m $f a x $.

@@ -1,0 +1,8 @@
+$( first $)
+$c a	$.
+
+  l  $a	a $.
+t $p a $=
+ l $.   
+
+$( last $)

@@ -1,0 +1,9 @@
+$c a $.
+$( (New usage is discouraged.) $)
+g $a a $.
+$( (Proof modification is discouraged.) $)
+t $p a $=
+      g $.
+$( (New usage is discouraged.) $)
+u $p a $=
+      t $.

@@ -1,0 +1,7 @@
+$c |- term = $.
+$v x $.
+tx $f term x $.
+id $a |- x = x $.
+same $a |- x = x $.
+first $p |- x = x $= ? $.
+second $p |- x = x $= ? $.
