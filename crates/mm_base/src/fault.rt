@@ -9,6 +9,20 @@ use thiserror::Error;
 #[error("the outside has failed")]
 pub struct Failed;
 
+/// A sink has failed when it had taken the first bytes of a piece, but not all.
+#[derive(Clone, Copy, Debug, PartialEq, Eq, Error)]
+#[error("the sink has failed after {taken} bytes")]
+pub struct ShortWrite {
+    /// How many bytes of the piece it has taken.
+    pub taken: usize,
+}
+
+impl From<ShortWrite> for Failed {
+    fn from(_: ShortWrite) -> Self {
+        Failed
+    }
+}
+
 /// Why a call of the files gave no answer.
 #[derive(Clone, Copy, Debug, PartialEq, Eq, Error)]
 pub enum FilesFault {

@@ -18,7 +18,7 @@ mod sure_sink;
 mod sure_source;
 mod unread;
 
-pub use fault::{Failed, FilesFault};
+pub use fault::{Failed, FilesFault, ShortWrite};
 pub use files::{Fetched, Files};
 pub use made::{Made, Steps};
 pub use mem_files::MemFiles;

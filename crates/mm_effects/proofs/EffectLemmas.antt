@@ -185,6 +185,7 @@ module _ {F : Type 0} (fs : FilesOf F) where
     same = n.same;
     none = λ t no. let x : true ≡ false = no in cc;
     one = λ t fine yes. n.counted t;
+    most = λ t. inr (n.counted t);
     fails = λ t y. let yes = outcome_was r y in elim (cases_lt (fs.calls old) 18446744073709551615) [
       | inl lt ↦ (lt, (n.fails t lt).0 (sym e ∙ yes))
       | inr ge ↦ (let no : failed ≡ false = n.never_past t ge in let yes' : failed ≡ true = sym e ∙ yes in cc)
@@ -198,6 +199,7 @@ module _ {F : Type 0} (fs : FilesOf F) where
     same = λ t. refl;
     none = λ t no. refl;
     one = λ t fine yes. let x : false ≡ true = yes in cc;
+    most = λ t. inl refl;
     fails = λ t y. absurd (n y);
     faulted = λ t fine yes f. let x : false ≡ true = yes in cc;
   }
@@ -284,6 +286,7 @@ module _ {F : Type 0} (fs : FilesOf F) where
       same = λ t. refl;
       none = λ t no. let x : true ≡ false = no in cc;
       one = λ t fine yes. absurd (fine refl);
+      most = λ t. inl refl;
       fails = λ t y. cc;
       faulted = λ t fine yes f. absurd (fine refl);
     };

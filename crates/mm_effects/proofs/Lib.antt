@@ -8,3 +8,4 @@ pub mod SoundLemmas
 mod CompleteLemmas
 pub mod SavesLemmas
 pub mod ReadingLemmas
+pub mod FrameLemmas

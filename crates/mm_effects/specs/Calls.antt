@@ -1,5 +1,5 @@
 -- The calls that a command makes on the files.
-use Rattle.std.specs.Prelude.{◌≡◌, ◌≢◌, ◌<◌, ◌+◌, ℕ, Bool, true, false, IsTrue, List, Contains, min}
+use Rattle.std.specs.Prelude.{◌≡◌, ◌≢◌, ◌<◌, ◌+◌, ℕ, Bool, true, false, IsTrue, List, Contains, min, ◌⊎◌}
 use Rattle.mm_base.specs.declared.files.Files.{Ghosts as FilesOf}
 use Rattle.mm_effects.specs.declared.reply.Reply.{Reply}
 use Rattle.mm_effects.specs.Effect.{outcome, Starved, Faulted}
@@ -8,11 +8,17 @@ use Rattle.mm_effects.specs.Effect.{outcome, Starved, Faulted}
 abbrev pub Fails : List ℕ → ℕ → Type 0
 Fails failing n = (n < 18446744073709551615) × Contains failing (n + 1)
 
--- A command makes one call where it reaches the files and isn't starved, and fails where that call does. Else it makes none.
+-- the number of calls once one more was made
+abbrev pub one_more : ℕ → ℕ
+one_more calls = min (calls + 1) 18446744073709551615
+
+-- A command makes one call where it reaches the files and isn't starved, and fails where that call does. Where it is starved
+-- it makes that one or none, and where it doesn't reach the files it makes none.
 pub record Calls {F : Type 0} (fs : FilesOf F) (old new : F) (reaches : Bool) (reply : Reply) : Type 0 where
   pub told : IsTrue (fs.tells_failing new) → IsTrue (fs.tells_failing old)
   pub same : IsTrue (fs.tells_failing new) → fs.failing new ≡ fs.failing old
   pub none : IsTrue (fs.tells_failing new) → reaches ≡ false → fs.calls new ≡ fs.calls old
-  pub one : IsTrue (fs.tells_failing new) → outcome reply ≢ Starved → reaches ≡ true → fs.calls new ≡ min (fs.calls old + 1) 18446744073709551615
+  pub one : IsTrue (fs.tells_failing new) → outcome reply ≢ Starved → reaches ≡ true → fs.calls new ≡ one_more (fs.calls old)
+  pub most : IsTrue (fs.tells_failing new) → (fs.calls new ≡ fs.calls old) ⊎ (fs.calls new ≡ one_more (fs.calls old))
   pub fails : IsTrue (fs.tells_failing new) → outcome reply ≡ Faulted → Fails (fs.failing old) (fs.calls old)
   pub faulted : IsTrue (fs.tells_failing new) → outcome reply ≢ Starved → reaches ≡ true → Fails (fs.failing old) (fs.calls old) → outcome reply ≡ Faulted

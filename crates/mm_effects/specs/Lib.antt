@@ -12,3 +12,4 @@ pub mod Texts
 pub mod Verdicts
 pub mod Writes
 pub mod Saves
+pub mod Frame

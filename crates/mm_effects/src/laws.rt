@@ -1,5 +1,6 @@
 //! What holds of each command.
 
+ghost use Rattle.mm_effects.specs.Frame.{RefusedChangesNothing, EndsSilently};
 ghost use Rattle.mm_effects.specs.Saves.{DatabasesComeByReading, OnlySavesChange, PutsTheDatabase, SavedTheoremsHold};
 ghost use Rattle.mm_effects.specs.Sound.{StaysSound};
 
@@ -16,4 +17,11 @@ pub fn saved_theorems_hold()
     ensures come { DatabasesComeByReading }
     ensures change { OnlySavesChange }
     ensures put { PutsTheDatabase }
+{}
+
+/// A line that is refused leaves the state as it is and puts nothing into the files, and one that ends the session has no
+/// text.
+pub fn refused_lines_change_nothing()
+    ensures refused { RefusedChangesNothing }
+    ensures ends { EndsSilently }
 {}

@@ -19,7 +19,7 @@ mod verify;
 mod write;
 
 pub use commands::{MAX_LINE, step};
-pub use laws::{saved_theorems_hold, states_stay_sound};
+pub use laws::{refused_lines_change_nothing, saved_theorems_hold, states_stay_sound};
 pub use reply::Reply;
 pub use state::{Hand, State};
 pub use text::Text;

@@ -1,18 +1,48 @@
 //! How a test runs a session.
 
-use mm_base::{Files, Memory, SureFiles, SureSink, SureSource, is_name};
-use mm_session::run_session;
+ghost use Rattle.std.specs.Prelude.{◌≡◌, ◌<◌};
+
+use mm_base::{Files, Memory, Sink, Source, Steps, SureFiles, SureSink, SureSource, is_name};
+use mm_session::SessionEnd;
 use std::alloc::Global;
+use std::marker::Brand;
+use std::sync::ledger::{Blank, Ledger};
 use std::test::Fail;
 
 /// How many bytes of a transcript a test keeps.
 pub const ROOM: u64 = 200_000;
 
+/// Runs the lines of the input as a session of which nobody counts the steps.
+pub fn run_session<F: Files, S: Source, K: Sink>(
+    alloc: Global,
+    files: &mut F,
+    input: &mut S,
+    screen: &mut K,
+) -> SessionEnd {
+    run_in::<Brand, _, _, _>(alloc, files, input, screen, Blank::new(1))
+}
+
+/// Runs a session with a ledger of its own.
+fn run_in<L: Ledger, F: Files, S: Source, K: Sink>(
+    alloc: Global,
+    files: &mut F,
+    input: &mut S,
+    screen: &mut K,
+    blank: Blank,
+) -> SessionEnd
+    requires name { blank.name ≡ L.name }
+    requires parts { blank.parts ≡ L.parts }
+    requires some { 0 < L.parts }
+{
+    let mut steps = Steps::<L>::new(blank);
+    mm_session::run_session(alloc, &[], files, input, screen, &mut steps)
+}
+
 /// The status of a session of these lines of input over these files, and what it writes.
 pub fn told<F: Files>(alloc: Global, files: &mut F, input: &[u8]) -> Result<(u8, Vec<u8>), Fail> {
     let mut screen = SureSink::new(alloc, ROOM)?;
     let mut input = SureSource::new(alloc, input)?;
-    let end = run_session(alloc, &[], files, &mut input, &mut screen);
+    let end = run_session(alloc, files, &mut input, &mut screen);
     Ok((end.status, screen.held().to_vec(alloc)?))
 }
 

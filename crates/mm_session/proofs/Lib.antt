@@ -8,3 +8,5 @@ mod TakenLemmas
 mod TurnLemmas
 mod SavesLemmas
 mod OriginLemmas
+pub mod OutputLemmas
+mod RefusedLemmas

@@ -1,5 +1,5 @@
 -- A session goes on as the machine does.
-use Rattle.std.proofs.Common.{◌≡◌, ◌≢◌, ◌==◌, ◌||◌, ◌+◌, ◌<◌, ◌≤◌, ℕ, zero, suc, Bool, true, false, IsTrue, List, [], ◌++◌, refl, sym, ◌∙◌, ap, subst, arith, slice_index_or, min, Option, Some, None, inl, inr, if◌then◌else◌}
+use Rattle.std.proofs.Common.{◌≡◌, ◌≢◌, ◌==◌, ◌||◌, ◌+◌, ◌<◌, ◌≤◌, ℕ, zero, suc, Bool, true, false, IsTrue, List, [], ◌++◌, refl, sym, ◌∙◌, ap, subst, arith, slice_index_or, ◌⊎◌, Option, Some, None, inl, inr, if◌then◌else◌}
 use Rattle.std.proofs.lemmas.Bool.{cases_lt}
 use Rattle.std.proofs.lemmas.Bool.Decides.{nat_tests}
 use Rattle.mm_base.specs.declared.files.Files.{Ghosts as FilesOf}
@@ -7,14 +7,16 @@ use Rattle.mm_base.specs.Files.{Map, put}
 use Rattle.mm_base.specs.Outside.{CountsFaults}
 use Rattle.mm_effects.specs.declared.state.State.{State}
 use Rattle.mm_effects.specs.declared.reply.Reply.{Reply}
+use Rattle.mm_effects.specs.declared.reply.Reply.TheVariants as reply
 use Rattle.mm_session.specs.declared.run.Run.{Run}
-use Rattle.mm_effects.specs.Effect.{Effect, Outcome, Fine, Starved, Faulted, outcome, ended, is_faulted, is_refused, with_puts, add_put}
+use Rattle.mm_effects.specs.Effect.{Effect, Outcome, Fine, Starved, Faulted, Meets, outcome, ended, is_faulted, is_refused, text_of, with_puts, add_put}
 use Rattle.mm_effects.specs.Asked.{Asked}
 use Rattle.mm_effects.specs.Effects.{asked_effect, step_of}
-use Rattle.mm_session.specs.Session.{Script, Machine, Turn, Maps, session, turn, turn_in, after, outcome_of, effect_of, prompt, echo}
+use Rattle.mm_session.specs.Session.{Script, Machine, Turn, Maps, session, turn, turn_in, after, outcome_of, effect_of, calls_of, starved_calls_of, prompt, echo}
 use Rattle.mm_session.specs.Course.{Follows, script, script_of}
-use Rattle.mm_effects.specs.Calls.{Fails}
-use Rattle.mm_session.specs.Calls.{HasCause, FaultsExactly, Counted}
+use Rattle.mm_effects.specs.Calls.{Fails, one_more}
+use Rattle.mm_effects.proofs.FrameLemmas.{ends_silently}
+use Rattle.mm_session.specs.Calls.{HasCause, FaultsExactly, CallsRise, Counted, count_of}
 use Rattle.mm_effects.specs.Ran.{HasRun}
 use Rattle.mm_session.specs.Advance.{IsLine, GoesOn, RunsOn}
 use Rattle.mm_session.proofs.CourseLemmas.{starved_after, faulted_after, outcome_now, outcome_before, rise_starved, rise_faulted, apart_after, rose_after, held_after, not_starved, was_none}
@@ -56,10 +58,10 @@ put_more map begun puts (Some p) e = ap (λ (m : Map). put m p.0 p.1) e
 
 -- the machine, in the words of the run
 abbrev machine_by : Machine → State → Bool → Machine
-machine_by m state refused = record { state = state; puts = m.puts; text = m.text; refused = refused; calls = m.calls }
+machine_by m state refused = record { state = state; puts = m.puts; text = m.text; refused = refused; calls = m.calls; starved_calls = m.starved_calls }
 
 machine_is : (m : Machine) (state : State) (refused : Bool) → state ≡ m.state → refused ≡ m.refused → m ≡ machine_by m state refused
-machine_is m state refused s r = λ i. record { state = sym s i; puts = m.puts; text = m.text; refused = sym r i; calls = m.calls }
+machine_is m state refused s r = λ i. record { state = sym s i; puts = m.puts; text = m.text; refused = sym r i; calls = m.calls; starved_calls = m.starved_calls }
 
 turn_is : (m m' : Machine) (map map' : Map) (line line' : List ℕ) (o o' : Outcome) → m ≡ m' → map ≡ map' → line ≡ line' → o ≡ o' →
     (let t : Turn = record { machine = m; map = map; line = line; outcome = o } in t) ≡ (let t : Turn = record { machine = m'; map = map'; line = line'; outcome = o' } in t)
@@ -70,14 +72,46 @@ ended_reaches Fine s e = refl
 ended_reaches Starved s e = refl
 ended_reaches Faulted s e = refl
 
-add_call : (b : Bool) (c c' s m : ℕ) → min c 18446744073709551615 ≡ min (s + m) 18446744073709551615 → (b ≡ false → c' ≡ c) → (b ≡ true → c' ≡ min (c + 1) 18446744073709551615) → min c' 18446744073709551615 ≡ min (s + (m + (if b then 1 else 0))) 18446744073709551615
-add_call true c c' s m e if_not if_so = let x : c' ≡ min (c + 1) 18446744073709551615 = if_so refl in omega arith
-add_call false c c' s m e if_not if_so = let x : c' ≡ c = if_not refl in omega arith
+add_call : (o : Outcome) → o ≢ Starved → (b : Bool) (c c' s m : ℕ) → count_of c ≡ count_of (s + m) → (b ≡ false → c' ≡ c) → (b ≡ true → c' ≡ one_more c) → count_of c' ≡ count_of (s + (m + calls_of o b))
+add_call Starved fine b c c' s m e if_not if_so = absurd (fine refl)
+add_call Fine fine true c c' s m e if_not if_so = let x : c' ≡ one_more c = if_so refl in omega arith
+add_call Fine fine false c c' s m e if_not if_so = let x : c' ≡ c = if_not refl in omega arith
+add_call Faulted fine true c c' s m e if_not if_so = let x : c' ≡ one_more c = if_so refl in omega arith
+add_call Faulted fine false c c' s m e if_not if_so = let x : c' ≡ c = if_not refl in omega arith
 
-fails_at : (xs : List ℕ) (a b : ℕ) → min a 18446744073709551615 ≡ b → Fails xs a → Fails xs b
+-- the least and the most calls, once a command has ended so and made its own
+add_least : (o : Outcome) (b : Bool) (c c' s m : ℕ) → count_of (s + m) ≤ count_of c → (b ≡ false → c' ≡ c) → (o ≢ Starved → b ≡ true → c' ≡ one_more c) → (c' ≡ c) ⊎ (c' ≡ one_more c) → count_of (s + (m + calls_of o b)) ≤ count_of c'
+add_least Starved b c c' s m le if_not if_so (inl e) = omega (arith, le, e)
+add_least Starved b c c' s m le if_not if_so (inr e) = omega (arith, le, e)
+add_least Fine true c c' s m le if_not if_so most = let x : c' ≡ one_more c = if_so (λ y. cc) refl in omega (arith, le, x)
+add_least Fine false c c' s m le if_not if_so most = let x : c' ≡ c = if_not refl in omega (arith, le, x)
+add_least Faulted true c c' s m le if_not if_so most = let x : c' ≡ one_more c = if_so (λ y. cc) refl in omega (arith, le, x)
+add_least Faulted false c c' s m le if_not if_so most = let x : c' ≡ c = if_not refl in omega (arith, le, x)
+
+add_most : (o : Outcome) (b : Bool) (c c' s m k : ℕ) → count_of c ≤ count_of (s + (m + k)) → (b ≡ false → c' ≡ c) → (c' ≡ c) ⊎ (c' ≡ one_more c) → count_of c' ≤ count_of (s + ((m + calls_of o b) + (k + starved_calls_of o b)))
+add_most o false c c' s m k le if_not most = let x : c' ≡ c = if_not refl in none o x
+  where
+    none : (o : Outcome) → c' ≡ c → count_of c' ≤ count_of (s + ((m + calls_of o false) + (k + starved_calls_of o false)))
+    none Starved x = omega (arith, le, x)
+    none Fine x = omega (arith, le, x)
+    none Faulted x = omega (arith, le, x)
+add_most Starved true c c' s m k le if_not (inl e) = omega (arith, le, e)
+add_most Starved true c c' s m k le if_not (inr e) = omega (arith, le, e)
+add_most Fine true c c' s m k le if_not (inl e) = omega (arith, le, e)
+add_most Fine true c c' s m k le if_not (inr e) = omega (arith, le, e)
+add_most Faulted true c c' s m k le if_not (inl e) = omega (arith, le, e)
+add_most Faulted true c c' s m k le if_not (inr e) = omega (arith, le, e)
+
+-- where the session has ended by a command, it ended as it should and has no text
+ends_fine : (state state' : State) (map : Map) (line : List ℕ) (r : Reply) → state.ended ≡ false → Meets (step_of state map line) state r state' → state'.ended ≡ true → (outcome r ≡ Fine) × (text_of r ≡ [])
+ends_fine state state' map line (reply.Done text refused) on m off = (refl, m.text ∙ ends_silently state map line on (ap (λ (s : State). s.ended) (sym m.state) ∙ off))
+ends_fine state state' map line reply.Starved on m off = let no : true ≡ false = sym off ∙ (ap (λ (s : State). s.ended) m.state ∙ on) in absurd (cc)
+ends_fine state state' map line reply.Faulted on m off = let no : true ≡ false = sym off ∙ (ap (λ (s : State). s.ended) m.state ∙ on) in absurd (cc)
+
+fails_at : (xs : List ℕ) (a b : ℕ) → count_of a ≡ b → Fails xs a → Fails xs b
 fails_at xs a b e f = let lt : a < 18446744073709551615 = f.0 in let is : a ≡ b = omega arith in subst (λ (n : ℕ). Fails xs n) is f
 
-fails_back : (xs : List ℕ) (a b : ℕ) → min a 18446744073709551615 ≡ b → Fails xs b → Fails xs a
+fails_back : (xs : List ℕ) (a b : ℕ) → count_of a ≡ b → Fails xs b → Fails xs a
 fails_back xs a b e f = let lt : b < 18446744073709551615 = f.0 in let is : b ≡ a = omega arith in subst (λ (n : ℕ). Fails xs n) is f
 
 -- A command is run after n others.
@@ -153,10 +187,10 @@ module _ {F : Type 0} (fs : FilesOf F) (s : Script) (begun : F) (n : ℕ) (state
         causes = each_turn HasCause t.follows.causes (record { goes_on = t.open_still; memory = meets.starved; files = meets.faulted });
       }
 
-  faults_now : (IsTrue (fs.tells_failing now)) → outcome r ≢ Starved → fs.failing before ≡ fs.failing begun → min (fs.calls before) 18446744073709551615 ≡ min (fs.calls begun + (session s n).calls) 18446744073709551615 → FaultsExactly fs begun it
+  faults_now : (IsTrue (fs.tells_failing now)) → outcome r ≢ Starved → fs.failing before ≡ fs.failing begun → count_of (fs.calls before) ≡ count_of (fs.calls begun + (session s n).calls) → FaultsExactly fs begun it
   faults_now u fine failing number =
       let calls = t.has_run.number in
-      let known = min (fs.calls begun + (session s n).calls) 18446744073709551615 in (
+      let known = count_of (fs.calls begun + (session s n).calls) in (
         λ y. record {
           reaches = t.has_run.meets.faulted y;
           fails = subst (λ (xs : List ℕ). Fails xs known) failing (fails_at (fs.failing before) (fs.calls before) known number (calls.fails u y));
@@ -164,6 +198,27 @@ module _ {F : Type 0} (fs : FilesOf F) (s : Script) (begun : F) (n : ℕ) (state
         λ cf. calls.faulted u fine cf.reaches
             (fails_back (fs.failing before) (fs.calls before) known number (subst (λ (xs : List ℕ). Fails xs known) (sym failing) cf.fails)),
       )
+
+  -- the calls of the machine with the command
+  calls_now : (session next (suc n)).calls ≡ (session s n).calls + calls_of (outcome r) (effect_of it).reaches_files
+  calls_now = ap (λ (m : Machine). m.calls) goes ∙ ap (λ (b : Bool). (session s n).calls + calls_of (outcome r) b) (ended_reaches (outcome r) state (effect_of it))
+
+  starved_calls_now : (session next (suc n)).starved_calls ≡ (session s n).starved_calls + starved_calls_of (outcome r) (effect_of it).reaches_files
+  starved_calls_now = ap (λ (m : Machine). m.starved_calls) goes ∙ ap (λ (b : Bool). (session s n).starved_calls + starved_calls_of (outcome r) b) (ended_reaches (outcome r) state (effect_of it))
+
+  rise_on : IsTrue (fs.tells_failing now) → CallsRise fs begun before (session s n) → CallsRise fs begun now (session next (suc n))
+  rise_on u old =
+      let calls = t.has_run.number in
+      let reaches = (effect_of it).reaches_files in
+      let known = (session s n).calls in
+      let starved = (session s n).starved_calls in
+      record {
+        least = subst (λ (c : ℕ). count_of (fs.calls begun + c) ≤ count_of (fs.calls now)) (sym calls_now)
+            (add_least (outcome r) reaches (fs.calls before) (fs.calls now) (fs.calls begun) known old.least (λ no. calls.none u no) (λ fine yes. calls.one u fine yes) (calls.most u));
+        most = subst (λ (c : ℕ). count_of (fs.calls now) ≤ count_of (fs.calls begun + (c + (session next (suc n)).starved_calls))) (sym calls_now)
+            (subst (λ (k : ℕ). count_of (fs.calls now) ≤ count_of (fs.calls begun + ((known + calls_of (outcome r) reaches) + k))) (sym starved_calls_now)
+            (add_most (outcome r) reaches (fs.calls before) (fs.calls now) (fs.calls begun) known starved old.most (λ no. calls.none u no) (calls.most u)));
+      }
 
   counted_on : Counted fs s begun n before → Counted fs next begun (suc n) now
   counted_on k =
@@ -173,12 +228,12 @@ module _ {F : Type 0} (fs : FilesOf F) (s : Script) (begun : F) (n : ℕ) (state
       record {
         told = λ u. k.told (calls.told u);
         same = λ u. calls.same u ∙ k.same (calls.told u);
+        rise = λ u. rise_on u (k.rise (calls.told u));
         calls = λ u none.
             let fine : outcome r ≢ Starved = not_starved (outcome r) s.starved (suc n) none in
             let was = k.calls (calls.told u) (was_none (outcome r) s.starved (suc n) none) in
-            add_call reaches (fs.calls before) (fs.calls now) (fs.calls begun) known was (λ no. calls.none u no) (λ yes. calls.one u fine yes)
-            ∙ ap (λ (c : ℕ). min (fs.calls begun + c) 18446744073709551615)
-            (sym (ap (λ (m : Machine). m.calls) goes ∙ ap (λ (b : Bool). known + (if b then 1 else 0)) (ended_reaches (outcome r) state (effect_of it))));
+            add_call (outcome r) fine reaches (fs.calls before) (fs.calls now) (fs.calls begun) known was (λ no. calls.none u no) (λ yes. calls.one u fine yes)
+            ∙ ap (λ (c : ℕ). count_of (fs.calls begun + c)) (sym calls_now);
         exactly = λ u none.
             let before_none = was_none (outcome r) s.starved (suc n) none in
             each_turn (FaultsExactly fs begun) (k.exactly (calls.told u) before_none)
@@ -191,6 +246,7 @@ module _ {F : Type 0} (fs : FilesOf F) (s : Script) (begun : F) (n : ℕ) (state
     earlier = session_before n (omega arith);
     text = ap (λ (m : Machine). m.text) goes ∙ ap (λ (x : List ℕ). (session s n).text ++ ((prompt state ++ echo line) ++ x)) (sym t.has_run.meets.text);
     counted = counted_on;
+    ends = ends_fine state state' t.has_run.map line r t.open_still t.has_run.meets;
   }
 
   -- the same, where the lists are named otherwise

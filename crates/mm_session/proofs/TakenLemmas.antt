@@ -101,9 +101,8 @@ module _ {S : Type 0} (src : SourceOf S) (words : List (List ℕ)) (was : S) (me
 
   -- the commands that have come were run, or all but the last
   takes_by : (run status : ℕ) (exited : Bool) → run ≤ length met → length met ≤ run + 1 → (ends_by_command status exited ≡ true → run ≡ length met) → wants_more status exited ≡ false → (status ≡ 7 → wants_more status exited ≡ true) →
-      Takes src words was now (met ++ to_come words c (src.left now)) run status exited
+      Takes src words was now (met ++ to_come words c (src.left now)) came.used run status exited
   takes_by run status exited most least ran no_more at_seven = record {
-    used = came.used;
     rest = c.reader.ahead;
     given = given_whole;
     later = lines_of (all_of c.reader (src.left now));
@@ -122,17 +121,21 @@ module _ {S : Type 0} (src : SourceOf S) (words : List (List ℕ)) (was : S) (me
     spent = λ e. not_both (wants_more status exited) no_more (at_seven e);
   }
 
+  -- so many commands were taken, those that have come among them
+  pub count_taken : length met ≤ length words + length (lines_of came.used)
+  count_taken = let w = came.within in omega (arith, length_met, count_lines, w)
+
   pub takes_run : (run status : ℕ) (exited : Bool) → run ≡ length met → wants_more status exited ≡ false → (status ≡ 7 → wants_more status exited ≡ true) →
-      Takes src words was now (met ++ to_come words c (src.left now)) run status exited
+      Takes src words was now (met ++ to_come words c (src.left now)) came.used run status exited
   takes_run run status exited is no_more at_seven = takes_by run status exited (omega (arith, is)) (omega (arith, is)) (λ e. is) no_more at_seven
 
-  pub takes_cut : (run : ℕ) (exited : Bool) → run ≤ length met → length met ≤ run + 1 → Takes src words was now (met ++ to_come words c (src.left now)) run 4 exited
+  pub takes_cut : (run : ℕ) (exited : Bool) → run ≤ length met → length met ≤ run + 1 → Takes src words was now (met ++ to_come words c (src.left now)) came.used run 4 exited
   takes_cut run exited most least = takes_by run 4 exited most least (λ e. let no : false ≡ true = e in absurd (cc)) refl (λ e. absurd (omega (arith, e)))
 
   module _ (new : Commands) (after : S) where
     -- the input has ended
     pub takes_all : (end : ComesToEnd src words was came.lines c new after) (run status : ℕ) (exited : Bool) → run ≡ length met → ends_by_command status exited ≡ false → (status ≡ 7 → has_run_out status exited ≡ true × (status ≡ 3)) →
-        Takes src words was after (met ++ []) run status exited
+        Takes src words was after (met ++ []) end.used run status exited
     takes_all end run status exited is not_by at_seven =
         let found : lines_of end.used ≡ came.lines = run_lines src was end.taken end.used came.lines new.reader after end.read in
         let nothing : new.reader.ahead ≡ [] = end.read.last end.over in
@@ -144,7 +147,6 @@ module _ {S : Type 0} (src : SourceOf S) (words : List (List ℕ)) (was : S) (me
         ∙ ap (λ (ls : List (List ℕ)). words ++ (ls ++ [])) (sym found))) in
         let none : all_of new.reader (src.left after) ≡ [] = ended_all new.reader.ended end.over nothing in
         record {
-          used = end.used;
           rest = new.reader.ahead;
           given = subst (λ (xs : List ℕ). Gives src.tells src.left was after xs) end.read.whole end.read.given;
           later = [];
@@ -169,13 +171,12 @@ module _ {S : Type 0} (src : SourceOf S) (words : List (List ℕ)) (was : S) (me
 
     -- the input has failed, or too much of it was taken
     pub takes_stopped : (why : Stopped) (stop : ComesToStop src words was came.lines why c now new after) (run status : ℕ) (exited : Bool) → run ≡ length met → has_run_out status exited ≡ false → ends_by_command status exited ≡ false → (status ≡ 7 → why ≡ Spent) →
-        Takes src words was after (met ++ to_come words c (src.left now)) run status exited
+        Takes src words was after (met ++ to_come words c (src.left now)) stop.used run status exited
     takes_stopped why stop run status exited is not_out not_by at_seven =
         let stops = stop.stops in
         let found : lines_of stop.used ≡ came.lines = stops.lines_are in
         let count : length (lines_of stop.used) ≡ length came.lines = ap length found in
         record {
-          used = stop.used;
           rest = stops.rest;
           given = subst (λ (xs : List ℕ). Gives src.tells src.left was after xs) stops.whole stops.given;
           later = lines_of (all_of c.reader (src.left now));
@@ -209,9 +210,8 @@ module _ {S : Type 0} (src : SourceOf S) (words : List (List ℕ)) (was : S) whe
   }
 
   -- nothing was taken
-  pub takes_none : (run : ℕ) (exited : Bool) → run ≡ 0 → Takes src words was was (words ++ lines_of (src.left was)) run 5 exited
+  pub takes_none : (run : ℕ) (exited : Bool) → run ≡ 0 → Takes src words was was (words ++ lines_of (src.left was)) [] run 5 exited
   takes_none run exited is = record {
-    used = [];
     rest = [];
     given = gives_none src.tells src.left was;
     later = lines_of (src.left was);

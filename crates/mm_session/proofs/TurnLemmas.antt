@@ -6,7 +6,7 @@ use Rattle.std.proofs.lemmas.List.{length-append}
 use Rattle.mm_base.specs.declared.files.Files.{Ghosts as FilesOf}
 use Rattle.mm_base.specs.declared.sink.Sink.{Ghosts as SinkOf}
 use Rattle.mm_base.specs.declared.source.Source.{Ghosts as SourceOf}
-use Rattle.mm_base.specs.Sink.{Gains, GainsPart}
+use Rattle.mm_base.specs.Sink.{Gains}
 use Rattle.mm_lines.specs.declared.next.Stopped.TheVariants.{Failed, Spent}
 use Rattle.mm_session.specs.declared.commands.Commands.{Commands}
 use Rattle.mm_session.specs.declared.run.Run.{Run}
@@ -14,6 +14,7 @@ use Rattle.mm_session.specs.declared.turn.Turn.{Turn}
 use Rattle.mm_session.specs.declared.turn.Turn.TheVariants.{GoesOn, Ended}
 use Rattle.mm_effects.specs.declared.state.State.{State}
 use Rattle.mm_lines.specs.Lines.{lines_of}
+use Rattle.mm_session.specs.Output.{GainsLess}
 use Rattle.mm_session.specs.Session.{fresh, prompt}
 use Rattle.mm_session.specs.Coming.{Came, ComesNext, ComesToEnd, ComesToStop, line_in, no_line, to_come}
 use Rattle.mm_session.specs.Taken.{Takes, wants_more, ends_by_command}
@@ -23,16 +24,17 @@ use Rattle.mm_effects.specs.Sound.{IsSound}
 use Rattle.mm_session.specs.Course.{script_of}
 use Rattle.mm_session.proofs.LawLemmas.{session_is_sound}
 use Rattle.mm_session.proofs.HeadlineLemmas.{nothing_run, not_begun, cut_at_prompt, input_failed, input_spent, finishes}
-use Rattle.mm_session.proofs.TakenLemmas.{came_none, takes_none, takes_run, takes_cut, takes_all, takes_stopped}
+use Rattle.mm_session.proofs.TakenLemmas.{came_none, count_taken, takes_none, takes_run, takes_cut, takes_all, takes_stopped}
 
 module _ {F S K : Type 0} (fs : FilesOf F) (src : SourceOf S) (sk : SinkOf K) (words : List (List ℕ)) (begun : F) (was : S) (opened : K) (c : Commands) (run : Run) (files : F) (input : S) (screen : K) (st : Stands fs src sk words begun was opened c run files input screen) where
   -- the screen fails at the prompt
-  pub turn_cut : (screen' : K) → GainsPart sk.tells sk.held screen screen' [] (prompt run.state) → IsSession fs src sk words begun was opened (ended_run 4 run) files input screen'
+  pub turn_cut : (screen' : K) → GainsLess sk.tells sk.held screen screen' (prompt run.state) → IsSession fs src sk words begun was opened (ended_run 4 run) files input screen'
   turn_cut screen' part =
       let commands = st.met ++ to_come words c (src.left input) in
       record {
         commands = commands;
-        runs = cut_at_prompt fs sk commands begun opened run files screen screen' (st.reached (to_come words c (src.left input))) part;
+        used = st.came.used;
+        runs = cut_at_prompt fs sk commands _ begun opened run files screen screen' (st.reached (to_come words c (src.left input))) st.open_still part;
         takes = takes_cut src words was st.met c input st.came run.lines _ (omega (arith, st.lines)) (omega (arith, st.lines));
       }
 
@@ -46,7 +48,8 @@ module _ {F S K : Type 0} (fs : FilesOf F) (src : SourceOf S) (sk : SinkOf K) (w
       let later = to_come words c (src.left input) in
       record {
         commands = st.met ++ later;
-        runs = input_failed fs sk (st.met ++ later) begun opened run files screen' (prompted later screen' gains);
+        used = stop.used;
+        runs = input_failed fs sk (st.met ++ later) _ begun opened run files screen' (prompted later screen' gains) st.open_still;
         takes = takes_stopped src words was st.met c input st.came new input' Failed stop run.lines 3 _ st.lines refl refl (λ e. absurd (omega (arith, e)));
       }
 
@@ -57,7 +60,8 @@ module _ {F S K : Type 0} (fs : FilesOf F) (src : SourceOf S) (sk : SinkOf K) (w
       let later = to_come words c (src.left input) in
       record {
         commands = st.met ++ later;
-        runs = input_spent fs sk (st.met ++ later) begun opened run files screen' (prompted later screen' gains);
+        used = stop.used;
+        runs = input_spent fs sk (st.met ++ later) _ begun opened run files screen' (prompted later screen' gains) st.open_still;
         takes = takes_stopped src words was st.met c input st.came new input' Spent stop run.lines 7 _ st.lines refl refl (λ e. refl);
       }
 
@@ -80,9 +84,10 @@ module _ {F S K : Type 0} (fs : FilesOf F) (src : SourceOf S) (sk : SinkOf K) (w
   turn_ends new input' screen' screen'' (Ended status) gains end f =
       let le = finished_low screen' screen'' status f in
       let all : run.lines ≡ length (st.met ++ []) = omega (arith, st.lines, length-append st.met []) in
-      let to = finishes fs sk (st.met ++ []) begun opened run files screen' screen'' status (prompted [] screen' gains) all st.open_still f in
+      let to = finishes fs sk (st.met ++ []) (length words + length (lines_of end.used)) begun opened run files screen' screen'' status (prompted [] screen' gains) all st.open_still f in
       record {
         commands = st.met ++ [];
+        used = end.used;
         runs = to.runs;
         takes = takes_all src words was st.met c input st.came new input' end run.lines status _ st.lines
             (not_by_command status _ le (λ lt. ap (λ s. s.ended) (to.state lt) ∙ st.open_still)) (λ e. absurd (omega (arith, e, le)));
@@ -104,16 +109,20 @@ module _ {F S K : Type 0} (fs : FilesOf F) (src : SourceOf S) (sk : SinkOf K) (w
     prompted_next later =
         subst (λ (cs : List (List ℕ)). Prompted fs sk cs begun opened run files screen') (sym (append_assoc st.met (n.whole ∷ []) later)) (prompted (n.whole ∷ later) screen' gains)
 
-    next_is : (later : List (List ℕ)) → HasNext (met' ++ later) run (line_in new) n.whole
+    abbrev came' : Came src words was met' new input'
+    came' = n.came words was st.met st.came
+
+    -- how many commands were taken
+    abbrev taken' : ℕ
+    taken' = length words + length (lines_of came'.used)
+
+    next_is : (later : List (List ℕ)) → HasNext (met' ++ later) taken' run (line_in new) n.whole
     next_is later = record {
       is_line = n.is_line;
       at = seam st.met later n.whole run.lines st.lines;
-      more = omega (arith, length_more, length-append met' later);
+      more = omega (arith, length_more, count_taken src words was met' new input' came');
       open_still = st.open_still;
     }
-
-    came' : Came src words was met' new input'
-    came' = n.came words was st.met st.came
 
     -- what EXIT and the 65th command given up have in common
     no_more : (status : ℕ) (exited : Bool) → status ≤ 6 → (status ≡ 3 → ⊥) → (status < 2 → exited ≡ true) → wants_more status exited ≡ false
@@ -121,13 +130,13 @@ module _ {F S K : Type 0} (fs : FilesOf F) (src : SourceOf S) (sk : SinkOf K) (w
     no_more status false le three low = grind (arith, nat_tests, three, low)
 
     takes_answered : (old' : Run) (status : ℕ) (exited : Bool) → AnswerEnds status run old' → (status < 2 → exited ≡ old'.state.ended) →
-        Takes src words was input' (met' ++ to_come words new (src.left input')) old'.lines status exited
+        Takes src words was input' (met' ++ to_come words new (src.left input')) came'.used old'.lines status exited
     takes_answered run' status exited (Unechoed e same) state =
         let lines : run'.lines ≡ run.lines = ap (λ (r : Run). r.lines) same in
-        subst (λ (k : ℕ). Takes src words was input' (met' ++ to_come words new (src.left input')) run'.lines k exited) (sym e)
+        subst (λ (k : ℕ). Takes src words was input' (met' ++ to_come words new (src.left input')) came'.used run'.lines k exited) (sym e)
         (takes_cut src words was met' new input' came' run'.lines exited (omega (arith, lines, length_more)) (omega (arith, lines, length_more)))
     takes_answered run' status exited (Untold e lines) state =
-        subst (λ (k : ℕ). Takes src words was input' (met' ++ to_come words new (src.left input')) run'.lines k exited) (sym e)
+        subst (λ (k : ℕ). Takes src words was input' (met' ++ to_come words new (src.left input')) came'.used run'.lines k exited) (sym e)
         (takes_cut src words was met' new input' came' run'.lines exited (omega (arith, lines, length_more)) (omega (arith, lines, length_more)))
     takes_answered run' status exited (GivenUp low high lines) state =
         takes_run src words was met' new input' came' run'.lines status exited (omega (arith, lines, length_more))
@@ -143,10 +152,10 @@ module _ {F S K : Type 0} (fs : FilesOf F) (src : SourceOf S) (sk : SinkOf K) (w
 
     -- the next command is answered
     pub turn_answers : (run' : Run) (files' : F) (screen'' : K) (result : Turn) (line : List ℕ) → line ≡ line_in new →
-        ((commands : List (List ℕ)) (whole : List ℕ) → Prompted fs sk commands begun opened run files screen' → HasNext commands run line whole → Answers fs sk commands begun opened run result run' files' screen'') →
+        ((commands : List (List ℕ)) (taken : ℕ) (whole : List ℕ) → Prompted fs sk commands begun opened run files screen' → HasNext commands taken run line whole → Answers fs sk commands taken begun opened run result run' files' screen'') →
         Turns fs src sk words begun was opened c result new run' files' input' screen''
     turn_answers run' files' screen'' GoesOn line is answers =
-        let at = λ (later : List (List ℕ)). answers (met' ++ later) n.whole (prompted_next later) (subst (λ (l : List ℕ). HasNext (met' ++ later) run l n.whole) (sym is) (next_is later)) in (
+        let at = λ (later : List (List ℕ)). answers (met' ++ later) taken' n.whole (prompted_next later) (subst (λ (l : List ℕ). HasNext (met' ++ later) taken' run l n.whole) (sym is) (next_is later)) in (
           record {
             met = met';
             came = came';
@@ -158,9 +167,10 @@ module _ {F S K : Type 0} (fs : FilesOf F) (src : SourceOf S) (sk : SinkOf K) (w
         )
     turn_answers run' files' screen'' (Ended status) line is answers =
         let later = to_come words new (src.left input') in
-        let a = answers (met' ++ later) n.whole (prompted_next later) (subst (λ (l : List ℕ). HasNext (met' ++ later) run l n.whole) (sym is) (next_is later)) in
+        let a = answers (met' ++ later) taken' n.whole (prompted_next later) (subst (λ (l : List ℕ). HasNext (met' ++ later) taken' run l n.whole) (sym is) (next_is later)) in
         record {
           commands = met' ++ later;
+          used = came'.used;
           runs = a.1.runs;
           takes = takes_answered run' status _ a.0 (λ lt. ap (λ s. s.ended) (a.1.state lt));
         }
@@ -171,7 +181,7 @@ module _ {F S K : Type 0} (fs : FilesOf F) (src : SourceOf S) (sk : SinkOf K) (w
   session_begins c is_words is_next is_reader = record {
     met = [];
     came = came_none src words was c is_words is_next is_reader;
-    reached = λ later. nothing_run fs sk ([] ++ later) begun opened run state lines refused starved faulted;
+    reached = λ later. nothing_run fs sk ([] ++ later) 0 begun opened run state lines refused starved faulted;
     lines = lines;
     open_still = ap (λ (s : State). s.ended) state;
   }
@@ -180,7 +190,8 @@ module _ {F S K : Type 0} (fs : FilesOf F) (src : SourceOf S) (sk : SinkOf K) (w
   pub session_starves : IsSession fs src sk words begun was opened (ended_run 5 run) begun was opened
   session_starves = record {
     commands = words ++ lines_of (src.left was);
-    runs = not_begun fs sk (words ++ lines_of (src.left was)) begun opened run state lines refused starved faulted;
+    used = [];
+    runs = not_begun fs sk (words ++ lines_of (src.left was)) _ begun opened run state lines refused starved faulted;
     takes = takes_none src words was run.lines _ lines;
   }
 

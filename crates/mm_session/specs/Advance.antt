@@ -8,7 +8,7 @@ use Rattle.mm_session.specs.declared.run.Run.{Run}
 use Rattle.mm_session.specs.declared.advance.Progress.{Progress}
 use Rattle.mm_session.specs.declared.advance.Progress.TheVariants as progress
 use Rattle.mm_effects.specs.Asked.{asked_of}
-use Rattle.mm_effects.specs.Effect.{text_of}
+use Rattle.mm_effects.specs.Effect.{Fine, outcome, text_of}
 use Rattle.mm_session.specs.Calls.{Counted}
 use Rattle.mm_session.specs.Session.{Script, Maps, session, prompt, shown, echo}
 use Rattle.mm_session.specs.Course.{Follows, script, script_of}
@@ -25,6 +25,8 @@ pub record GoesOn {F : Type 0} (fs : FilesOf F) (begun : F) (n : ℕ) (line : Li
   pub earlier : session s' n ≡ session s n
   pub text : (session s' (suc n)).text ≡ (session s n).text ++ ((prompt state ++ echo line) ++ text_of reply)
   pub counted : Counted fs s begun n before → Counted fs s' begun (suc n) files
+  -- a command that has ended the session did so without a text
+  pub ends : state'.ended ≡ true → (outcome reply ≡ Fine) × (text_of reply ≡ [])
 
 -- The run has gone on, over maps of which the last is what the command met.
 pub record RunsOn {F : Type 0} (fs : FilesOf F) (commands : List (List ℕ)) (maps : Maps) (begun : F) (old : Run) (before : F) (line : List ℕ) (reply : Reply) (starved faulted : List ℕ) (state : State) (refused : Bool) (files : F) : Type 0 where

@@ -1,17 +1,19 @@
 -- What holds of a session that has ended.
-use Rattle.std.specs.Prelude.{◌≡◌, ◌<◌, ◌==◌, ◌||◌, ℕ, zero, suc, nat_lt, if◌then◌else◌, Bool, true, false, IsTrue, List, [], ◌∷◌, ◌++◌, length, slice_index_or, Contains}
+use Rattle.std.specs.Prelude.{◌≡◌, ◌+◌, ◌<◌, ◌==◌, ◌||◌, ℕ, zero, suc, nat_lt, if◌then◌else◌, Bool, true, false, IsTrue, List, [], ◌∷◌, ◌++◌, length, slice_index_or, Contains}
 use Rattle.mm_base.specs.declared.files.Files.{Ghosts as FilesOf}
 use Rattle.mm_base.specs.declared.sink.Sink.{Ghosts as SinkOf}
 use Rattle.mm_base.specs.declared.source.Source.{Ghosts as SourceOf}
 use Rattle.mm_base.specs.Outside.{RoseBy}
-use Rattle.mm_base.specs.Sink.{Gains, GainsPart}
+use Rattle.mm_base.specs.Sink.{Gains}
+use Rattle.mm_lines.specs.Lines.{lines_of}
 use Rattle.mm_session.specs.declared.session.SessionEnd.{SessionEnd}
 use Rattle.mm_session.specs.declared.run.Run.{Run}
 use Rattle.mm_effects.specs.declared.state.State.{State}
 use Rattle.mm_effects.specs.Effect.{with_puts}
-use Rattle.mm_session.specs.Calls.{HasCause, FaultsExactly, Counted}
+use Rattle.mm_session.specs.Calls.{HasCause, FaultsExactly, Counted, CallsRise, CallsRiseExactly}
 use Rattle.mm_session.specs.Session.{Script, Maps, maps_of, session, turn, prompt, echo}
 use Rattle.mm_session.specs.Course.{Rise, AreApart, Follows, script, script_of}
+use Rattle.mm_session.specs.Output.{GainsFirst}
 use Rattle.mm_session.specs.Taken.{Takes}
 
 -- the numbers, and that of the last command, if there is one
@@ -36,9 +38,9 @@ abbrev pub before_reply : Script → ℕ → List ℕ
 before_reply s zero = []
 before_reply s (suc n) = (session s n).text ++ (prompt (session s n).state ++ echo (slice_index_or s.commands n []))
 
--- what is written after the transcript of n commands: the prompt, and the next line or the end of the prompt's own
-abbrev pub next_text : Script → ℕ → List ℕ
-next_text s n = prompt (session s n).state ++ (if nat_lt n (length s.commands) then echo (slice_index_or s.commands n []) else 10 ∷ [])
+-- the transcript of n commands, the next prompt, and the echo of the next command, where so many were taken that it was
+abbrev pub next_text : Script → ℕ → ℕ → List ℕ
+next_text s taken n = (session s n).text ++ (prompt (session s n).state ++ (if nat_lt n taken then echo (slice_index_or s.commands n []) else []))
 
 -- the status of a session that came to its end
 abbrev pub end_status : Bool → ℕ
@@ -54,10 +56,9 @@ pub record EndsWhole {K : Type 0} (sk : SinkOf K) (s : Script) (opened : K) (end
   pub status : end.status ≡ end_status (session s end.lines).refused
   pub transcript : Gains sk.tells sk.held opened screen ((session s end.lines).text ++ last_text (session s end.lines).state)
 
--- The screen has failed, with the first bytes of the transcript on it.
-abbrev pub EndsCut : {K : Type 0} (sk : SinkOf K) (s : Script) (opened : K) (end : SessionEnd) (screen : K) → Type 0
-EndsCut sk s opened end screen =
-    GainsPart sk.tells sk.held opened screen (before_reply s end.lines) ((session s end.lines).text ++ next_text s end.lines)
+-- The screen has failed, with the first bytes of the transcript on it, where so many commands were taken.
+abbrev pub EndsCut : {K : Type 0} (sk : SinkOf K) (s : Script) (taken : ℕ) (opened : K) (end : SessionEnd) (screen : K) → Type 0
+EndsCut sk s taken opened end screen = GainsFirst sk.tells sk.held opened screen (length (before_reply s end.lines)) (next_text s taken end.lines)
 
 -- The input gave no line, after the prompt.
 abbrev pub EndsAsking : {K : Type 0} (sk : SinkOf K) (s : Script) (opened : K) (end : SessionEnd) (screen : K) → Type 0
@@ -67,15 +68,18 @@ EndsAsking sk s opened end screen = Gains sk.tells sk.held opened screen ((sessi
 pub record GivesUp {K : Type 0} (sk : SinkOf K) (s : Script) (opened : K) (end : SessionEnd) (screen : K) : Type 0 where
   pub transcript : Gains sk.tells sk.held opened screen (before_reply s end.lines)
 
--- The commands were run as the machine runs them, over the maps that they met: over the files' own, where they tell it.
-pub record Runs {F K : Type 0} (fs : FilesOf F) (sk : SinkOf K) (commands : List (List ℕ)) (begun : F) (opened : K) (end : SessionEnd) (files : F) (screen : K) : Type 0 where
+-- The commands were run as the machine runs them, over the maps that they met: over the files' own, where they tell it. Of
+-- the commands so many were taken, the words and the lines that were found.
+pub record Runs {F K : Type 0} (fs : FilesOf F) (sk : SinkOf K) (commands : List (List ℕ)) (taken : ℕ) (begun : F) (opened : K) (end : SessionEnd) (files : F) (screen : K) : Type 0 where
   pub maps : Maps
   pub told : IsTrue (fs.tells files) → maps ≡ maps_of (fs.lookup begun)
   pub which : Contains (0 ∷ 1 ∷ 3 ∷ 4 ∷ 5 ∷ 6 ∷ 7 ∷ []) end.status
+  -- an EXIT that ends the session ends it so
+  pub exits : (session (script_by commands maps end) end.lines).state.ended ≡ true → end.status < 2
   -- what was written to the screen
   pub whole : end.status < 2 → EndsWhole sk (script_by commands maps end) opened end screen
   pub asking : (end.status == 3 || end.status == 7) ≡ true → EndsAsking sk (script_by commands maps end) opened end screen
-  pub cut : end.status ≡ 4 → EndsCut sk (script_by commands maps end) opened end screen
+  pub cut : end.status ≡ 4 → EndsCut sk (script_by commands maps end) taken opened end screen
   pub given_up : (end.status == 5 || end.status == 6) ≡ true → GivesUp sk (script_by commands maps end) opened end screen
   pub starving : end.status ≡ 5 → 0 < end.lines → length end.starved.items ≡ 64
   pub faulting : end.status ≡ 6 → length end.faulted.items ≡ 64
@@ -89,13 +93,18 @@ pub record Runs {F K : Type 0} (fs : FilesOf F) (sk : SinkOf K) (commands : List
   pub causes : (k : ℕ) → k < end.lines → HasCause (turn (script_by commands maps end) k)
   pub files_failed : RoseBy (length (faulted_by end)) (fs.faults begun) (fs.faults files)
   pub files_held : faulted_by end ≡ [] → fs.faults files ≡ fs.faults begun
+  -- the calls on the files
+  pub calls : IsTrue (fs.tells_failing files) → CallsRise fs begun files (session (script_by commands maps end) end.lines)
+  pub calls_exactly : IsTrue (fs.tells_failing files) → starved_by end ≡ [] → CallsRiseExactly fs begun files (session (script_by commands maps end) end.lines)
   pub faults_exactly : IsTrue (fs.tells_failing files) → starved_by end ≡ [] → (k : ℕ) → k < end.lines → FaultsExactly fs begun (turn (script_by commands maps end) k)
 
 -- The session is the machine's over its commands, which are the words and the lines of the input.
 pub record IsSession {F S K : Type 0} (fs : FilesOf F) (src : SourceOf S) (sk : SinkOf K) (words : List (List ℕ)) (begun : F) (was : S) (opened : K) (end : SessionEnd) (files : F) (input : S) (screen : K) : Type 0 where
   pub commands : List (List ℕ)
-  pub runs : Runs fs sk commands begun opened end files screen
-  pub takes : Takes src words was input commands end.lines end.status (session (script_by commands runs.maps end) end.lines).state.ended
+  -- what was taken of the input in the lines that were found
+  pub used : List ℕ
+  pub runs : Runs fs sk commands (length words + length (lines_of used)) begun opened end files screen
+  pub takes : Takes src words was input commands used end.lines end.status (session (script_by commands runs.maps end) end.lines).state.ended
 
 -- The first commands have been run, and their transcript is on the screen.
 pub record Reached {F K : Type 0} (fs : FilesOf F) (sk : SinkOf K) (commands : List (List ℕ)) (begun : F) (opened : K) (run : Run) (files : F) (screen : K) : Type 0 where

@@ -1,12 +1,12 @@
 -- What the session machine means in the words of databases.
-use Rattle.std.specs.Prelude.{◌≡◌, ℕ, true, false, List, Some}
+use Rattle.std.specs.Prelude.{◌≡◌, ℕ, suc, true, false, List, Some}
 use Rattle.mm_scope.specs.Contents.{is_read}
 use Rattle.mm_stack.specs.Accepting.{Accepts}
 use Rattle.mm_command.specs.Meanings.{Read, VerifyProof}
 use Rattle.mm_effects.specs.Asked.{Asks, asked_of, is_pattern}
 use Rattle.mm_effects.specs.Sound.{IsSound}
 use Rattle.mm_effects.specs.Verdicts.{checked_text}
-use Rattle.mm_session.specs.Session.{Script, Turn, session, turn, effect_of}
+use Rattle.mm_session.specs.Session.{Script, Turn, session, turn, effect_of, done}
 
 -- The command asks for the proof with a label, and the database that was read accepts it.
 pub record IsAccepted (t : Turn) : Type 0 where
@@ -39,3 +39,7 @@ pub record IsRead (t : Turn) (name : List ℕ) : Type 0 where
 
 abbrev pub ReadIsWhole : Type 0
 ReadIsWhole = (s : Script) (n : ℕ) (name : List ℕ) → asked_of (turn s n).line ≡ Asks (Read name) → (effect_of (turn s n)).refused ≡ false → IsRead (turn s n) name
+
+-- A command that is refused, starves or meets a file fault leaves the state as it was, and puts nothing into the files.
+abbrev pub RefusedChangesNothing : Type 0
+RefusedChangesNothing = (s : Script) (n : ℕ) → (done (turn s n)).refused ≡ true → ((session s (suc n)).state ≡ (session s n).state) × ((session s (suc n)).puts ≡ (session s n).puts)

@@ -4,6 +4,7 @@ pub mod Coming
 pub mod Course
 pub mod Headline
 pub mod Laws
+pub mod Output
 pub mod Session
 pub mod Taken
 pub mod Turns

@@ -3,13 +3,8 @@ use Rattle.std.specs.Prelude.{◌≡◌, ◌+◌, ℕ, zero, suc, Bool, true, fa
 use Rattle.mm_stack.specs.Accepting.{Accepts}
 use Rattle.mm_command.specs.Meanings.{Read}
 use Rattle.mm_effects.specs.Asked.{Asks, asked_of}
-use Rattle.mm_effects.specs.Effect.{Effect, ended}
 use Rattle.mm_effects.specs.Saves.{Save, saved_by, with_save, last_complete, HoldsIn}
-use Rattle.mm_session.specs.Session.{Script, Turn, session, turn, effect_of}
-
--- what a command did, however it ended
-abbrev pub done : Turn → Effect
-done t = ended t.outcome t.machine.state (effect_of t)
+use Rattle.mm_session.specs.Session.{Script, Turn, session, turn, done}
 
 -- what a command saved
 abbrev pub save_in : Turn → Option Save

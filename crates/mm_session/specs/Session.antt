@@ -54,8 +54,10 @@ pub record Machine : Type 0 where
   pub text : List ℕ
   -- whether a command was refused
   pub refused : Bool
-  -- how many of the commands reach the files
+  -- how many commands reach the files and didn't starve: each of these makes one call
   pub calls : ℕ
+  -- how many reach the files and starved: each of these makes one call or none
+  pub starved_calls : ℕ
 
 -- a command in its session
 pub record Turn : Type 0 where
@@ -70,26 +72,41 @@ pub record Turn : Type 0 where
 abbrev pub effect_of : Turn → Effect
 effect_of t = step_of t.machine.state t.map t.line
 
--- the session after a command that did this
-abbrev pub after_effect : Machine → List ℕ → Effect → Machine
-after_effect m line effect = record {
+-- the calls of a command that ends so, by whether it reaches the files, where it didn't starve
+abbrev pub calls_of : Outcome → Bool → ℕ
+calls_of Starved reaches = 0
+calls_of outcome reaches = if reaches then 1 else 0
+
+-- and where it starved
+abbrev pub starved_calls_of : Outcome → Bool → ℕ
+starved_calls_of Starved reaches = if reaches then 1 else 0
+starved_calls_of outcome reaches = 0
+
+-- what a command did, however it ended
+abbrev pub done : Turn → Effect
+done t = ended t.outcome t.machine.state (effect_of t)
+
+-- the session after a command that ended so and did this
+abbrev pub after_effect : Machine → List ℕ → Outcome → Effect → Machine
+after_effect m line outcome effect = record {
   state = effect.state;
   puts = add_put effect.put m.puts;
   text = m.text ++ ((prompt m.state ++ echo line) ++ effect.text);
   refused = m.refused || effect.refused;
-  calls = m.calls + (if effect.reaches_files then 1 else 0);
+  calls = m.calls + calls_of outcome effect.reaches_files;
+  starved_calls = m.starved_calls + starved_calls_of outcome effect.reaches_files;
 }
 
 -- the session after a command
 abbrev pub after : Turn → Machine
-after t = after_effect t.machine t.line (ended t.outcome t.machine.state (effect_of t))
+after t = after_effect t.machine t.line t.outcome (done t)
 
 -- the state in which a session begins
 abbrev pub fresh : State
 fresh = record { database = None; hand = None; unwritten = false; ended = false }
 
 abbrev pub start : Machine
-start = record { state = fresh; puts = []; text = []; refused = false; calls = 0 }
+start = record { state = fresh; puts = []; text = []; refused = false; calls = 0; starved_calls = 0 }
 
 -- the command after n others, in this session
 abbrev pub turn_in : Machine → Script → ℕ → Turn

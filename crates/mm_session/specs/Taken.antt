@@ -17,11 +17,9 @@ wants_more status exited = has_run_out status exited || (status == 3 || status =
 abbrev pub ends_by_command : ℕ → Bool → Bool
 ends_by_command status exited = (nat_lt status 2 && exited) || (status == 5 || status == 6)
 
--- The commands are the words and then the lines of the input. Of it this was taken before a session ended, which had run
--- so many commands.
-pub record Takes {S : Type 0} (src : SourceOf S) (words : List (List ℕ)) (was now : S) (commands : List (List ℕ)) (run status : ℕ) (exited : Bool) : Type 0 where
-  -- what was taken: the part that stands in lines that were found, and the rest
-  pub used : List ℕ
+-- The commands are the words and then the lines of the input. Of it this was taken in lines that were found, and a rest,
+-- before a session ended, which had run so many commands.
+pub record Takes {S : Type 0} (src : SourceOf S) (words : List (List ℕ)) (was now : S) (commands : List (List ℕ)) (used : List ℕ) (run status : ℕ) (exited : Bool) : Type 0 where
   pub rest : List ℕ
   pub given : Gives src.tells src.left was now (used ++ rest)
   pub later : List (List ℕ)

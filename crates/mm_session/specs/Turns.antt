@@ -3,12 +3,13 @@ use Rattle.std.specs.Prelude.{◌≡◌, ◌+◌, ◌<◌, ◌≤◌, ◌==◌, 
 use Rattle.mm_base.specs.declared.files.Files.{Ghosts as FilesOf}
 use Rattle.mm_base.specs.declared.sink.Sink.{Ghosts as SinkOf}
 use Rattle.mm_base.specs.declared.source.Source.{Ghosts as SourceOf}
-use Rattle.mm_base.specs.Sink.{Gains, GainsPart}
+use Rattle.mm_base.specs.Sink.{Gains}
 use Rattle.mm_session.specs.declared.commands.Commands.{Commands}
 use Rattle.mm_session.specs.declared.run.Run.{Run}
 use Rattle.mm_session.specs.declared.session.SessionEnd.{SessionEnd}
 use Rattle.mm_session.specs.declared.turn.Turn.{Turn}
 use Rattle.mm_session.specs.declared.turn.Turn.TheVariants.{GoesOn, Ended}
+use Rattle.mm_session.specs.Output.{GainsLess}
 use Rattle.mm_session.specs.Session.{session, prompt}
 use Rattle.mm_session.specs.Coming.{Came, room}
 use Rattle.mm_session.specs.Advance.{IsLine}
@@ -28,16 +29,16 @@ pub record Prompted {F K : Type 0} (fs : FilesOf F) (sk : SinkOf K) (commands : 
   pub reached : Reached fs sk commands begun opened run files before
   pub prompted : Gains sk.tells sk.held before screen (prompt run.state)
 
--- The next command is this, in a session that goes on.
-pub record HasNext (commands : List (List ℕ)) (run : Run) (line whole : List ℕ) : Type 0 where
+-- The next command is this and was taken, in a session that goes on.
+pub record HasNext (commands : List (List ℕ)) (taken : ℕ) (run : Run) (line whole : List ℕ) : Type 0 where
   pub is_line : IsLine line whole
   pub at : slice_index_or commands run.lines [] ≡ whole
-  pub more : run.lines < length commands
+  pub more : run.lines < taken
   pub open_still : run.state.ended ≡ false
 
 -- The run has ended with this status; by EXIT or at the end of the input it stands as the machine does.
-pub record RunsTo {F K : Type 0} (fs : FilesOf F) (sk : SinkOf K) (commands : List (List ℕ)) (begun : F) (opened : K) (status : ℕ) (run : Run) (files : F) (screen : K) : Type 0 where
-  pub runs : Runs fs sk commands begun opened (ended_run status run) files screen
+pub record RunsTo {F K : Type 0} (fs : FilesOf F) (sk : SinkOf K) (commands : List (List ℕ)) (taken : ℕ) (begun : F) (opened : K) (status : ℕ) (run : Run) (files : F) (screen : K) : Type 0 where
+  pub runs : Runs fs sk commands taken begun opened (ended_run status run) files screen
   pub state : status < 2 → (session (script_by commands runs.maps (ended_run status run)) run.lines).state ≡ run.state
 
 -- How the answer to a command has ended the session: the screen has failed, or the command was the 65th that was given up,
@@ -54,14 +55,14 @@ pub record Answered {F K : Type 0} (fs : FilesOf F) (sk : SinkOf K) (commands : 
   pub one_more : new.lines ≡ old.lines + 1
   pub open_still : new.state.ended ≡ false
 
-abbrev pub Answers : {F K : Type 0} (fs : FilesOf F) (sk : SinkOf K) (commands : List (List ℕ)) (begun : F) (opened : K) (old : Run) → Turn → Run → F → K → Type 0
-Answers fs sk commands begun opened old GoesOn new files screen = Answered fs sk commands begun opened old new files screen
-Answers fs sk commands begun opened old (Ended status) new files screen =
-    AnswerEnds status old new × RunsTo fs sk commands begun opened status new files screen
+abbrev pub Answers : {F K : Type 0} (fs : FilesOf F) (sk : SinkOf K) (commands : List (List ℕ)) (taken : ℕ) (begun : F) (opened : K) (old : Run) → Turn → Run → F → K → Type 0
+Answers fs sk commands taken begun opened old GoesOn new files screen = Answered fs sk commands begun opened old new files screen
+Answers fs sk commands taken begun opened old (Ended status) new files screen =
+    AnswerEnds status old new × RunsTo fs sk commands taken begun opened status new files screen
 
 -- The end of the last prompt's line was written, or the screen has failed at it.
 pub data Finished {K : Type 0} (sk : SinkOf K) (refused : Bool) (old : K) (status : ℕ) (new : K) : Type 0 where
-  Unwritten : status ≡ 4 → GainsPart sk.tells sk.held old new [] (10 ∷ []) → Finished sk refused old status new
+  Unwritten : status ≡ 4 → GainsLess sk.tells sk.held old new (10 ∷ []) → Finished sk refused old status new
   Written : status ≡ end_status refused → Gains sk.tells sk.held old new (10 ∷ []) → Finished sk refused old status new
 
 abbrev pub Finishes : {K : Type 0} (sk : SinkOf K) (refused : Bool) (old : K) → Turn → K → Type 0

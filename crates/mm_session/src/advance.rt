@@ -3,9 +3,10 @@ ghost use Rattle.mm_effects.specs.Sound.{IsSound};
 ghost use Rattle.mm_session.specs.Advance.{Advances, IsLine};
 
 use crate::run::Run;
-use mm_base::Files;
+use mm_base::{Files, Steps};
 use mm_effects::{Reply, step};
 use std::alloc::Global;
+use std::sync::ledger::Ledger;
 
 /// What has become of a command in its session.
 #[derive(Drop)]
@@ -18,8 +19,14 @@ pub enum Progress {
     Faulted,
 }
 
-/// Runs the next command.
-pub fn advance<F: Files>(alloc: Global, run: &mut Run, files: &mut F, line: &[u8]) -> Progress
+/// Runs the next command. It is the place that hands the ledger on to the command.
+pub fn advance<F: Files, L: Ledger>(
+    alloc: Global,
+    run: &mut Run,
+    files: &mut F,
+    line: &[u8],
+    _steps: &mut Steps<L>,
+) -> Progress
     requires fits { run.old.lines + 1 < 18446744073709551616 }
     requires sound { IsSound run.old.state }
     ensures lines { run.new.lines ≡ run.old.lines + 1 }

@@ -1,7 +1,7 @@
 ghost use Rattle.std.specs.Prelude.{◌≡◌, List, ℕ, take};
 ghost use Rattle.mm_effects.specs.Asked.{asked_of};
 ghost use Rattle.mm_session.specs.Session.{shown};
-ghost use Rattle.mm_session.specs.Laws.{SaysAccepted, AcceptedIsSaid, SessionIsSound, ReadIsWhole};
+ghost use Rattle.mm_session.specs.Laws.{SaysAccepted, AcceptedIsSaid, RefusedChangesNothing, SessionIsSound, ReadIsWhole};
 ghost use Rattle.mm_session.specs.Saves.{DatabasesAreFromFiles, OnlySavesChange, PutsTheDatabase, SavedTheoremsHold, WrittenTheoremsHold};
 
 /// Of a line that is too long, its first 65,537 bytes are as good as all of it.
@@ -20,6 +20,12 @@ pub fn accepted_is_proved()
 /// known step is an instance of the statement that it names.
 pub fn proofs_in_hand_are_valid()
     ensures { SessionIsSound }
+{}
+
+/// A command that is refused, that finds no memory or whose call on the files fails leaves the database, the proof in hand
+/// and all else of the state as they were, and puts nothing into the files.
+pub fn refused_commands_change_nothing()
+    ensures { RefusedChangesNothing }
 {}
 
 /// What is read is the whole of a file that has no fault.

@@ -4,15 +4,15 @@
 mod advance;
 mod commands;
 mod law;
+mod output;
 mod run;
 mod session;
-mod show;
 mod turn;
 mod word;
 
 pub use law::{
     accepted_is_proved, kept_is_enough, only_saves_change_a_database, proofs_in_hand_are_valid,
-    read_is_whole, saved_theorems_are_accepted,
+    read_is_whole, refused_commands_change_nothing, saved_theorems_are_accepted,
 };
 pub use session::{SessionEnd, run_session};
 pub use word::Word;

@@ -1,16 +1,18 @@
 ghost use Rattle.std.specs.Prelude.{◌≡◌, ◌≢◌};
 ghost use Rattle.mm_base.specs.Outside.{RoseBy};
 ghost use Rattle.mm_session.specs.Headline.{IsSession};
-ghost use Rattle.mm_session.specs.Laws.{SessionIsSound};
+ghost use Rattle.mm_session.specs.Laws.{RefusedChangesNothing, SessionIsSound};
 ghost use Rattle.mm_session.specs.Saves.{DatabasesAreFromFiles, PutsTheDatabase, WrittenTheoremsHold};
 
 use crate::commands::Commands;
+use crate::output::Output;
 use crate::run::Run;
 use crate::turn::{Turn, take_turn};
 use crate::word::Word;
 use arrayvec::ArrayVec;
-use mm_base::{Files, Sink, Source};
+use mm_base::{Files, Sink, Source, Steps};
 use std::alloc::Global;
+use std::sync::ledger::Ledger;
 
 /// How a session has ended.
 #[derive(Drop)]
@@ -29,19 +31,21 @@ pub struct SessionEnd {
 
 /// Runs commands one after another: the words, and then the lines of the input, up to EXIT or the end of the input.
 ///
-/// Before each it writes the prompt, and only then reads a line. It writes the line and its text behind.
-pub fn run_session<F: Files, S: Source, K: Sink>(
+/// Before each it writes the prompt, and only then reads a line. Then it writes the line, and the text of its answer.
+pub fn run_session<F: Files, S: Source, K: Sink, L: Ledger>(
     alloc: Global,
     words: &[Word],
     files: &mut F,
     input: &mut S,
     screen: &mut K,
+    steps: &mut Steps<L>,
 ) -> SessionEnd
     // The session is the machine's, over the maps that its commands met.
     ensures session { IsSession ⟦<F as Files>⟧ ⟦<S as Source>⟧ ⟦<K as Sink>⟧ words.now files.old input.old screen.old result files.new input.new screen.new }
 
-    // In every session of the machine a proof in hand is valid for its theorem, each theorem whose last save was complete is
+    // In every session of the machine a command that is refused or gives up changes nothing, a proof in hand is valid for its theorem, each theorem whose last save was complete is
     // accepted in every file written since, and a file that is written is the database that was read, with the saved proofs.
+    ensures refused { RefusedChangesNothing }
     ensures valid { SessionIsSound }
     ensures accepted { WrittenTheoremsHold }
     ensures origin { DatabasesAreFromFiles }
@@ -58,8 +62,17 @@ pub fn run_session<F: Files, S: Source, K: Sink>(
         Ok(commands) => commands,
         Err(_) => return ended(run, 5),
     };
+    let mut output = Output::new(screen);
     loop {
-        match take_turn(alloc, &mut commands, &mut run, files, input, screen) {
+        match take_turn(
+            alloc,
+            &mut commands,
+            &mut run,
+            files,
+            input,
+            &mut output,
+            steps,
+        ) {
             Turn::GoesOn => {}
             Turn::Ended(status) => return ended(run, status),
         }

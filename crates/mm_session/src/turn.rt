@@ -6,11 +6,12 @@ ghost use Rattle.mm_session.specs.Turns.{Answers, Finishes, HasNext, Prompted, S
 
 use crate::advance::{Progress, advance};
 use crate::commands::Commands;
+use crate::output::Output;
 use crate::run::Run;
-use crate::show::{echo, end_line, prompt, show};
-use mm_base::{Files, Sink, Source};
+use mm_base::{Files, Sink, Source, Steps};
 use mm_lines::{Next, Stopped};
 use std::alloc::Global;
+use std::sync::ledger::Ledger;
 
 /// What has become of a session.
 #[derive(Clone, Copy)]
@@ -22,37 +23,40 @@ pub enum Turn {
 }
 
 /// Writes the prompt, finds the next command, and answers it.
-pub fn take_turn<F: Files, S: Source, K: Sink>(
+pub fn take_turn<F: Files, S: Source, K: Sink, L: Ledger>(
     alloc: Global,
     commands: &mut Commands<'_>,
     run: &mut Run,
     files: &mut F,
     input: &mut S,
-    screen: &mut K,
+    output: &mut Output<'_, K>,
+    steps: &mut Steps<L>,
 ) -> Turn
     requires fits { run.old.lines + 1 < 18446744073709551616 }
     requires sound { IsSound run.old.state }
-    ensures turns { (words : _) (begun : _) (was : _) (opened : _) → Stands ⟦<F as Files>⟧ ⟦<S as Source>⟧ ⟦<K as Sink>⟧ words begun was opened commands.old run.old files.old input.old screen.old → Turns ⟦<F as Files>⟧ ⟦<S as Source>⟧ ⟦<K as Sink>⟧ words begun was opened commands.old result commands.new run.new files.new input.new screen.new }
+    ensures same { output.new.screen.ghost_name ≡ output.old.screen.ghost_name }
+    ensures turns { (words : _) (begun : _) (was : _) (opened : _) → Stands ⟦<F as Files>⟧ ⟦<S as Source>⟧ ⟦<K as Sink>⟧ words begun was opened commands.old run.old files.old input.old output.old.screen.now → Turns ⟦<F as Files>⟧ ⟦<S as Source>⟧ ⟦<K as Sink>⟧ words begun was opened commands.old result commands.new run.new files.new input.new output.new.screen.now }
     ensures input { CountsFaults (has_status 3 result) (S.faults input.old) (S.faults input.new) }
-    ensures screen { CountsFaults (has_status 4 result) (K.faults screen.old) (K.faults screen.new) }
+    ensures screen { CountsFaults (has_status 4 result) (K.faults output.old.screen.now) (K.faults output.new.screen.now) }
 {
-    if prompt(screen, &run.state).is_err() {
+    if output.prompt(&run.state).is_err() {
         return Turn::Ended(4);
     }
     match commands.next(input) {
         Err(Stopped::Failed) => Turn::Ended(3),
         Err(Stopped::Spent) => Turn::Ended(7),
-        Ok(Next::End) => finish(run, screen),
-        Ok(Next::Line) => answer(alloc, commands.line(), run, files, screen),
+        Ok(Next::End) => finish(run, output),
+        Ok(Next::Line) => answer(alloc, commands.line(), run, files, output, steps),
     }
 }
 
 // Ends the line of the last prompt.
-fn finish<K: Sink>(run: &Run, screen: &mut K) -> Turn
-    ensures finishes { Finishes ⟦<K as Sink>⟧ run.now.refused screen.old result screen.new }
-    ensures screen { CountsFaults (has_status 4 result) (K.faults screen.old) (K.faults screen.new) }
+fn finish<K: Sink>(run: &Run, output: &mut Output<'_, K>) -> Turn
+    ensures same { output.new.screen.ghost_name ≡ output.old.screen.ghost_name }
+    ensures finishes { Finishes ⟦<K as Sink>⟧ run.now.refused output.old.screen.now result output.new.screen.now }
+    ensures screen { CountsFaults (has_status 4 result) (K.faults output.old.screen.now) (K.faults output.new.screen.now) }
 {
-    if end_line(screen).is_err() {
+    if output.end_line().is_err() {
         return Turn::Ended(4);
     }
     Turn::Ended(end_status(run.refused))
@@ -65,27 +69,29 @@ fn end_status(refused: bool) -> u8
 }
 
 // Writes the echo of a line, runs it, and writes its reply.
-fn answer<F: Files, K: Sink>(
+fn answer<F: Files, K: Sink, L: Ledger>(
     alloc: Global,
     line: &[u8],
     run: &mut Run,
     files: &mut F,
-    screen: &mut K,
+    output: &mut Output<'_, K>,
+    steps: &mut Steps<L>,
 ) -> Turn
     requires fits { run.old.lines + 1 < 18446744073709551616 }
     requires sound { IsSound run.old.state }
-    ensures answers { (commands : _) (begun : _) (opened : _) (whole : _) → Prompted ⟦<F as Files>⟧ ⟦<K as Sink>⟧ commands begun opened run.old files.old screen.old → HasNext commands run.old line.now whole → Answers ⟦<F as Files>⟧ ⟦<K as Sink>⟧ commands begun opened run.old result run.new files.new screen.new }
+    ensures same { output.new.screen.ghost_name ≡ output.old.screen.ghost_name }
+    ensures answers { (commands : _) (taken : _) (begun : _) (opened : _) (whole : _) → Prompted ⟦<F as Files>⟧ ⟦<K as Sink>⟧ commands begun opened run.old files.old output.old.screen.now → HasNext commands taken run.old line.now whole → Answers ⟦<F as Files>⟧ ⟦<K as Sink>⟧ commands taken begun opened run.old result run.new files.new output.new.screen.now }
     ensures input { has_status 3 result ≡ false }
-    ensures screen { CountsFaults (has_status 4 result) (K.faults screen.old) (K.faults screen.new) }
+    ensures screen { CountsFaults (has_status 4 result) (K.faults output.old.screen.now) (K.faults output.new.screen.now) }
 {
-    if echo(screen, line).is_err() {
+    if output.echo(line).is_err() {
         return Turn::Ended(4);
     }
-    match advance(alloc, run, files, line) {
+    match advance(alloc, run, files, line, steps) {
         Progress::Starved => Turn::Ended(5),
         Progress::Faulted => Turn::Ended(6),
         Progress::Replied(reply) => {
-            if show(screen, &reply).is_err() {
+            if output.reply(&reply).is_err() {
                 return Turn::Ended(4);
             }
             if run.state.ended {

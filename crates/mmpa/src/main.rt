@@ -8,13 +8,19 @@ mod screen;
 #[cfg(test)]
 mod tests;
 
+ghost use Rattle.std.specs.Prelude.{◌≡◌, ◌<◌};
+
 use arguments::{Arguments, read_arguments};
 use files::RealFiles;
 use input::RealInput;
-use mm_session::run_session;
+use mm_base::{Files, Sink, Source, Steps};
+use mm_session::{Word, run_session};
 use screen::Screen;
+use std::alloc::Global;
 use std::io;
+use std::marker::Brand;
 use std::process::ExitCode;
+use std::sync::ledger::{Blank, Ledger};
 
 const USAGE: &str = "\
 usage: mmpa [COMMAND ..]
@@ -64,10 +70,34 @@ fn main(rt: HostRuntime) -> ExitCode {
             let mut files = RealFiles::new(&rt);
             let mut input = RealInput::new(rt.reader());
             let mut screen = Screen::new(&rt);
-            let end = run_session(rt.alloc(), &words, &mut files, &mut input, &mut screen);
-            ExitCode::from(end.status)
+            run::<Brand, _, _, _>(
+                rt.alloc(),
+                &words,
+                &mut files,
+                &mut input,
+                &mut screen,
+                Blank::new(1),
+            )
         }
     }
+}
+
+/// Runs the session, with a ledger for the steps that its commands make.
+fn run<L: Ledger, F: Files, S: Source, K: Sink>(
+    alloc: Global,
+    words: &[Word],
+    files: &mut F,
+    input: &mut S,
+    screen: &mut K,
+    blank: Blank,
+) -> ExitCode
+    requires name { blank.name ≡ L.name }
+    requires parts { blank.parts ≡ L.parts }
+    requires some { 0 < L.parts }
+{
+    let mut steps = Steps::<L>::new(blank);
+    let end = run_session(alloc, words, files, input, screen, &mut steps);
+    ExitCode::from(end.status)
 }
 
 /// Writes how the program is used.

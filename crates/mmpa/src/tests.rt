@@ -3,7 +3,7 @@
 use crate::files::RealFiles;
 use crate::input::RealInput;
 use crate::screen::Screen;
-use mm_base::{Failed, Files, FilesFault, Source, is_name, write_all};
+use mm_base::{Failed, Files, FilesFault, ShortWrite, Source, is_name, write_all};
 use std::fmt::Display;
 use std::fs;
 use std::io::{self, ErrorKind, Read};
@@ -89,14 +89,20 @@ fn a_screen_counts_its_faults(rt: HostRuntime) -> Result<(), Fail> {
         failed: false,
     };
     let mut screen = Screen::new(&full);
-    assert_eq!(rt; write_all(&mut screen, b"text"), Err(Failed));
+    assert_eq!(rt;
+        write_all(&mut screen, b"text"),
+        Err(ShortWrite { taken: 0 })
+    );
     assert_eq!(rt; screen.faults(), 1);
     let closed = Narrow {
         most: 3,
         failed: true,
     };
     let mut screen = Screen::new(&closed);
-    assert_eq!(rt; write_all(&mut screen, b"text"), Err(Failed));
+    assert_eq!(rt;
+        write_all(&mut screen, b"text"),
+        Err(ShortWrite { taken: 0 })
+    );
     assert_eq!(rt; screen.faults(), 1);
     Ok(())
 }

@@ -5,8 +5,9 @@ use Rattle.mm_session.proofs.session.run_session.Given as goal
 
 abbrev pub invariant-loop-status : goal.invariant-loop-status
 invariant-loop-status g l =
-    Stands g.F.Files g.S.Source g.K.Sink l.words l.initial.files l.initial.input l.initial.screen l.commands l.run l.files l.input l.screen
-    × (g.S.Source.faults l.input ≡ g.S.Source.faults l.initial.input) × (g.K.Sink.faults l.screen ≡ g.K.Sink.faults l.initial.screen)
+    Stands g.F.Files g.S.Source g.K.Sink l.words l.initial.files l.initial.input l.initial.output.screen.now l.commands l.run l.files l.input l.output.screen.now
+    × (g.S.Source.faults l.input ≡ g.S.Source.faults l.initial.input) × (g.K.Sink.faults l.output.screen.now ≡ g.K.Sink.faults l.initial.output.screen.now)
+    × (l.output.screen.ghost_name ≡ l.initial.output.screen.ghost_name)
 
 abbrev pub decreases-loop-status : goal.decreases-loop-status
 decreases-loop-status g l = room l.commands

@@ -1,4 +1,5 @@
 use Rattle.std.proofs.Common.{◌≡◌, ◌+◌, ℕ, suc, refl, arith}
+use Rattle.mm_effects.specs.declared.reply.Reply.TheVariants as reply
 use Rattle.mm_session.specs.Turns.{Unechoed, Untold, GivenUp, Exits}
 use Rattle.mm_session.proofs.HeadlineLemmas.{err_gives, ok_gives, cut_at_echo, cut_at_text, gives_up_starved, gives_up_faulted, reaches, exits}
 use Rattle.mm_session.proofs.turn.answer.Goals as goal
@@ -7,34 +8,34 @@ one_more : (n m : ℕ) → n ≡ m + 1 → n ≡ suc m
 one_more n m e = omega (arith, e)
 
 pub returns-then-is_err-clause-answers : goal.returns-then-is_err-clause-answers
-returns-then-is_err-clause-answers g c = λ commands begun opened whole p h. (
+returns-then-is_err-clause-answers g c = λ commands taken begun opened whole p h. (
   Unechoed refl refl,
   record {
-    runs = cut_at_echo g.F.Files g.K.Sink commands begun opened c.args.run.now c.args.files.now c.args.screen.now c.echo.new.screen c.args.line.now whole p h
+    runs = cut_at_echo g.F.Files g.K.Sink commands taken begun opened c.args.run.now c.args.files.now c.args.output.now.screen.now c.echo.new.self.screen.now c.args.line.now whole p h
         (err_gives c.echo.result c.is_err.result c.if-is_err.true c.is_err.ensures.value c.echo.ensures.err);
     state = λ lt. absurd (omega (arith, lt));
   },
 )
 
 pub returns-then-is_err-2-clause-answers : goal.returns-then-is_err-2-clause-answers
-returns-then-is_err-2-clause-answers g c = λ commands begun opened whole p h. (
+returns-then-is_err-2-clause-answers g c = λ commands taken begun opened whole p h. (
   Untold refl c.in-Replied.ensures.lines,
   record {
-    runs = cut_at_text g.F.Files g.K.Sink commands begun opened c.args.run.now c.advance.new.run c.args.files.now c.advance.new.files c.args.screen.now c.echo.new.screen c.show.new.screen c.args.line.now whole c.in-Replied.reply p h
+    runs = cut_at_text g.F.Files g.K.Sink commands taken begun opened c.args.run.now c.advance.new.run c.args.files.now c.advance.new.files c.args.output.now.screen.now c.echo.new.self.screen.now c.reply.new.self.screen.now c.args.line.now whole c.in-Replied.reply p h
         (ok_gives c.echo.result c.is_err.result c.if-is_err.false c.is_err.ensures.value c.echo.ensures.ok)
         (one_more c.advance.new.run.lines c.args.run.now.lines c.in-Replied.ensures.lines)
         (c.in-Replied.ensures.goes whole commands p.reached.maps begun h.is_line p.reached.follows h.at h.open_still)
-        (err_gives c.show.result c.is_err-in-Replied.result c.if-is_err-2.true c.is_err-in-Replied.ensures.value c.show.ensures.err);
+        (err_gives c.reply.result c.is_err-in-Replied.result c.if-is_err-2.true c.is_err-in-Replied.ensures.value c.reply.ensures.err);
     state = λ lt. absurd (omega (arith, lt));
   },
 )
 
 pub returns-in-Starved-clause-answers : goal.returns-in-Starved-clause-answers
-returns-in-Starved-clause-answers g c = λ commands begun opened whole p h.
+returns-in-Starved-clause-answers g c = λ commands taken begun opened whole p h.
     let goes = c.in-Starved.ensures.goes whole commands p.reached.maps begun h.is_line p.reached.follows h.at h.open_still in (
       GivenUp (omega arith) (omega arith) c.in-Starved.ensures.lines,
       record {
-        runs = gives_up_starved g.F.Files g.K.Sink commands begun opened c.args.run.now c.advance.new.run _ c.args.files.now c.advance.new.files c.args.screen.now c.echo.new.screen c.args.line.now whole _ p h
+        runs = gives_up_starved g.F.Files g.K.Sink commands taken begun opened c.args.run.now c.advance.new.run _ c.args.files.now c.advance.new.files c.args.output.now.screen.now c.echo.new.self.screen.now c.args.line.now whole reply.Starved (λ y. cc) p h
             (ok_gives c.echo.result c.is_err.result c.if-is_err.false c.is_err.ensures.value c.echo.ensures.ok)
             (one_more c.advance.new.run.lines c.args.run.now.lines c.in-Starved.ensures.lines) goes.0 goes.1;
         state = λ lt. absurd (omega (arith, lt));
@@ -42,11 +43,11 @@ returns-in-Starved-clause-answers g c = λ commands begun opened whole p h.
     )
 
 pub returns-in-Faulted-clause-answers : goal.returns-in-Faulted-clause-answers
-returns-in-Faulted-clause-answers g c = λ commands begun opened whole p h.
+returns-in-Faulted-clause-answers g c = λ commands taken begun opened whole p h.
     let goes = c.in-Faulted.ensures.goes whole commands p.reached.maps begun h.is_line p.reached.follows h.at h.open_still in (
       GivenUp (omega arith) (omega arith) c.in-Faulted.ensures.lines,
       record {
-        runs = gives_up_faulted g.F.Files g.K.Sink commands begun opened c.args.run.now c.advance.new.run _ c.args.files.now c.advance.new.files c.args.screen.now c.echo.new.screen c.args.line.now whole _ p h
+        runs = gives_up_faulted g.F.Files g.K.Sink commands taken begun opened c.args.run.now c.advance.new.run _ c.args.files.now c.advance.new.files c.args.output.now.screen.now c.echo.new.self.screen.now c.args.line.now whole reply.Faulted (λ y. cc) p h
             (ok_gives c.echo.result c.is_err.result c.if-is_err.false c.is_err.ensures.value c.echo.ensures.ok)
             (one_more c.advance.new.run.lines c.args.run.now.lines c.in-Faulted.ensures.lines) goes.0 goes.1;
         state = λ lt. absurd (omega (arith, lt));
@@ -54,23 +55,23 @@ returns-in-Faulted-clause-answers g c = λ commands begun opened whole p h.
     )
 
 pub returns-then-run-clause-answers : goal.returns-then-run-clause-answers
-returns-then-run-clause-answers g c = λ commands begun opened whole p h. (
+returns-then-run-clause-answers g c = λ commands taken begun opened whole p h. (
   Exits c.end_status.ensures c.if-run.true c.in-Replied.ensures.lines,
-  exits g.F.Files g.K.Sink commands begun opened c.advance.new.run c.advance.new.files c.show.new.screen c.end_status.result c.end_status.ensures c.if-run.true
-      (reaches g.F.Files g.K.Sink commands begun opened c.args.run.now c.advance.new.run c.args.files.now c.advance.new.files c.args.screen.now c.echo.new.screen c.show.new.screen c.args.line.now whole c.in-Replied.reply p h
+  exits g.F.Files g.K.Sink commands taken begun opened c.advance.new.run c.advance.new.files c.reply.new.self.screen.now c.end_status.result c.end_status.ensures c.if-run.true
+      (reaches g.F.Files g.K.Sink commands taken begun opened c.args.run.now c.advance.new.run c.args.files.now c.advance.new.files c.args.output.now.screen.now c.echo.new.self.screen.now c.reply.new.self.screen.now c.args.line.now whole c.in-Replied.reply p h
       (ok_gives c.echo.result c.is_err.result c.if-is_err.false c.is_err.ensures.value c.echo.ensures.ok)
       (one_more c.advance.new.run.lines c.args.run.now.lines c.in-Replied.ensures.lines)
       (c.in-Replied.ensures.goes whole commands p.reached.maps begun h.is_line p.reached.follows h.at h.open_still)
-      (ok_gives c.show.result c.is_err-in-Replied.result c.if-is_err-2.false c.is_err-in-Replied.ensures.value c.show.ensures.ok)),
+      (ok_gives c.reply.result c.is_err-in-Replied.result c.if-is_err-2.false c.is_err-in-Replied.ensures.value c.reply.ensures.ok)),
 )
 
 pub returns-else-run-clause-answers : goal.returns-else-run-clause-answers
-returns-else-run-clause-answers g c = λ commands begun opened whole p h. record {
-  reached = reaches g.F.Files g.K.Sink commands begun opened c.args.run.now c.advance.new.run c.args.files.now c.advance.new.files c.args.screen.now c.echo.new.screen c.show.new.screen c.args.line.now whole c.in-Replied.reply p h
+returns-else-run-clause-answers g c = λ commands taken begun opened whole p h. record {
+  reached = reaches g.F.Files g.K.Sink commands taken begun opened c.args.run.now c.advance.new.run c.args.files.now c.advance.new.files c.args.output.now.screen.now c.echo.new.self.screen.now c.reply.new.self.screen.now c.args.line.now whole c.in-Replied.reply p h
       (ok_gives c.echo.result c.is_err.result c.if-is_err.false c.is_err.ensures.value c.echo.ensures.ok)
       (one_more c.advance.new.run.lines c.args.run.now.lines c.in-Replied.ensures.lines)
       (c.in-Replied.ensures.goes whole commands p.reached.maps begun h.is_line p.reached.follows h.at h.open_still)
-      (ok_gives c.show.result c.is_err-in-Replied.result c.if-is_err-2.false c.is_err-in-Replied.ensures.value c.show.ensures.ok);
+      (ok_gives c.reply.result c.is_err-in-Replied.result c.if-is_err-2.false c.is_err-in-Replied.ensures.value c.reply.ensures.ok);
   one_more = c.in-Replied.ensures.lines;
   open_still = c.if-run.false;
 }
