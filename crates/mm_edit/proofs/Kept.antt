@@ -1,6 +1,6 @@
 -- An assignment keeps a proof valid, and its pending steps as many.
 use Rattle.std.proofs.Common.{◌≡◌, ℕ, Bool, true, false, List, [], Option, None, Some, refl, ◌∙◌, ap, subst, arith, if◌then◌else◌}
-use Rattle.std.specs.Prelude.{nat_lt}
+use Rattle.std.specs.Prelude.{nat_lt, Result, Ok, Err}
 use Rattle.mm_subst.specs.declared.symbol.WSym.{WSym}
 use Rattle.mm_subst.specs.Substitutions.{Pairs}
 use Rattle.mm_plain.specs.declared.plain.Plain.{Plain}
@@ -12,9 +12,10 @@ use Rattle.mm_plain.proofs.Kept.{valid-placed}
 use Rattle.mm_match.specs.declared.matched.Matched.{Matched}
 use Rattle.mm_match.specs.declared.matched.Matched.TheVariants.{Missing, Unique, Several}
 use Rattle.mm_match.specs.Matches.{IsAnswer, IsOnlyMatch}
-use Rattle.mm_edit.specs.Outcome.{Refused, Placed, is_too_long, by_match, by_room, by_step, not_standing, assigned}
+use Rattle.mm_edit.specs.Outcome.{Refused, Placed, is_too_long, by_match, by_room, by_step, not_standing, assigned, assignment, proof_by, Outcome}
 use Rattle.mm_edit.specs.Counts.{pending_count}
 use Rattle.mm_edit.specs.Ways.{matched_of}
+use Rattle.mm_edit.specs.declared.fault.AssignFault.{AssignFault}
 use Rattle.mm_edit.specs.declared.fault.AssignFault.TheVariants.{TooManySteps, TooDeep, TooLong}
 use Rattle.mm_edit.proofs.Ways.{matched-answer}
 use Rattle.mm_edit.proofs.Last.{last-step}
@@ -89,3 +90,20 @@ pending_after bytes at p id k sigma e =
     let q = placed_at bytes at p id k sigma e in
     let step = last-step p.plain k q.last in
     pending_stays bytes p.plain k id sigma (premises_of bytes id) step.0.0 step.0.1 step.1 q.only.is_match.equal
+
+-- the same, by the proof then
+
+assignment_by : (bytes : List ℕ) (at : ℕ) (goal : List WSym) (p q : Proof) (id : ℕ) → IsValid bytes at goal p → (o : Outcome) → assigned bytes at p id ≡ o → proof_by bytes p id o ≡ Ok q
+    → IsValid bytes at goal q × (pending_count bytes q.plain ≡ pending_count bytes p.plain)
+assignment_by bytes at goal p q id v (Refused f) is e = cc
+assignment_by bytes at goal p q id v (Placed k sigma) is e =
+    let same : placed_in bytes p k id sigma ≡ q = ok_same (placed_in bytes p k id sigma) q e in
+    subst (λ (r : Proof). IsValid bytes at goal r × (pending_count bytes r.plain ≡ pending_count bytes p.plain)) same (valid_after bytes at goal p id k sigma is v, pending_after bytes at p id k sigma is)
+  where
+    ok_same : (a b : Proof) → (let x : Result Proof AssignFault = Ok a in x) ≡ Ok b → a ≡ b
+    ok_same a b e = cc
+
+pub assignment_keeps : (bytes : List ℕ) (at : ℕ) (goal : List WSym) (p q : Proof) (id : ℕ) → IsValid bytes at goal p → assignment bytes at p id ≡ Ok q
+    → IsValid bytes at goal q × (pending_count bytes q.plain ≡ pending_count bytes p.plain)
+unfolding assignment
+assignment_keeps bytes at goal p q id v e = assignment_by bytes at goal p q id v (assigned bytes at p id) refl e

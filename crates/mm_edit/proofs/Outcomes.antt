@@ -22,7 +22,7 @@ use Rattle.mm_edit.specs.Ways.{matched_of}
 use Rattle.mm_edit.proofs.Ways.{answered-so}
 use Rattle.mm_edit.proofs.Last.{last-step}
 use Rattle.mm_edit.specs.Faults.{fault_of}
-use Rattle.mm_edit.specs.Outcome.{Outcome, Refused, Placed, is_too_long, by_match, by_room, by_step, not_standing, assigned, IsAssigned, IsStanding, IsMeasured, Finds}
+use Rattle.mm_edit.specs.Outcome.{Outcome, Refused, Placed, is_too_long, by_match, by_room, by_step, not_standing, assigned, assignment, proof_by, IsEdited, IsAssigned, IsStanding, IsMeasured, Finds}
 use Rattle.mm_edit.specs.declared.fault.AssignFault.{AssignFault}
 use Rattle.mm_edit.specs.declared.fault.AssignFault.TheVariants.{NotEarlier, NotActive, NoStep, TooManySteps, TooDeep, NoMatch, NeedsWork, TooLong, Memory}
 
@@ -186,3 +186,15 @@ place-done bytes at id k old now sigma e l h same = placing-so bytes id k old no
 
 pub short-by : (bytes : List ℕ) (id k : ℕ) (p : Proof) (sigma : Pairs) → step_outcome bytes id p k ≡ Placed k sigma → is_too_long bytes id sigma ≡ false
 short-by bytes id k p sigma h = (roomy bytes id p.plain k (placed p.plain k id [] (premises_of bytes id)) sigma h).short
+
+-- what came about, as the proof then
+
+edited-so : (bytes : List ℕ) (id : ℕ) (o : Outcome) (r : Result Unit AssignFault) (old now : State) → IsAssigned bytes id r old now o → IsEdited (proof_by bytes old.proof id o) r old now
+edited-so bytes id (Refused f) (Ok u) old now h = absurd h.0
+edited-so bytes id (Placed k sigma) (Ok u) old now h = ap (λ (q : Proof). let x : Result Proof AssignFault = Ok q in x) (sym h.1)
+edited-so bytes id o (Err Memory) old now h = h
+edited-so bytes id o (Err f) old now h = (h.0, ap (proof_by bytes old.proof id) h.1)
+
+pub edited-by : (bytes : List ℕ) (at id : ℕ) (r : Result Unit AssignFault) (old now : State) → IsAssigned bytes id r old now (assigned bytes at old.proof id) → IsEdited (assignment bytes at old.proof id) r old now
+unfolding assignment
+edited-by bytes at id r old now h = edited-so bytes id (assigned bytes at old.proof id) r old now h

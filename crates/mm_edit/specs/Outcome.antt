@@ -50,6 +50,21 @@ unfoldable pub assigned : List ℕ → ℕ → Proof → ℕ → Outcome
 assigned bytes at p id =
     if may_stand bytes at id then by_step bytes id p.plain (last_unknown_of (labels_in p.plain)) else Refused (not_standing bytes id)
 
+-- the proof then, or why the statement is not assigned
+abbrev pub proof_by : List ℕ → Proof → ℕ → Outcome → Result Proof AssignFault
+proof_by bytes p id (Refused f) = Err f
+proof_by bytes p id (Placed k sigma) = Ok (placed_in bytes p k id sigma)
+
+-- The proof of the theorem at, once the statement is assigned to its last unknown step; or why it is not.
+unfoldable pub assignment : List ℕ → ℕ → Proof → ℕ → Result Proof AssignFault
+assignment bytes at p id = proof_by bytes p id (assigned bytes at p id)
+
+-- A tree was edited so, or the edit was refused; or memory ran out, and nothing changed.
+abbrev pub IsEdited : Result Proof AssignFault → Result Unit AssignFault → State → State → Type 0
+IsEdited meaning (Ok u) old now = meaning ≡ Ok now.proof
+IsEdited meaning (Err Memory) old now = now ≡ old
+IsEdited meaning (Err f) old now = (now ≡ old) × (meaning ≡ Err f)
+
 abbrev pub proof_after : List ℕ → Proof → ℕ → Outcome → Proof
 proof_after bytes p id (Refused f) = p
 proof_after bytes p id (Placed k sigma) = placed_in bytes p k id sigma

@@ -11,7 +11,7 @@ ghost use Rattle.mm_plain.specs.Valid.{IsValid};
 ghost use Rattle.mm_match.specs.Matches.{MayBeNamed};
 ghost use Rattle.mm_match.specs.declared.matched.Matched.TheVariants.{Unique};
 ghost use Rattle.mm_edit.specs.Ways.{matched_of};
-ghost use Rattle.mm_edit.specs.Outcome.{Finds, IsAssigned, IsMeasured, IsStanding, assigned, by_match, by_room, depth_of_last};
+ghost use Rattle.mm_edit.specs.Outcome.{Finds, IsEdited, IsMeasured, IsStanding, assignment, by_match, by_room, depth_of_last};
 
 use crate::fault::AssignFault;
 use mm_base::Steps;
@@ -117,7 +117,7 @@ pub fn assign<L: Ledger>(
 ) -> Result<(), AssignFault>
     requires at { at.0 < length (labels_of db.now) }
     requires own { id.0 < length (labels_of db.now) }
-    ensures assigned { IsAssigned db.now id.0 result tree.old tree.new (assigned db.now at.0 tree.old.proof id.0) }
+    ensures assigned { IsEdited (assignment db.now at.0 tree.old.proof id.0) result tree.old tree.new }
     // A proof that is valid for the theorem stays valid.
     ensures valid { OnOk result ((goal : List WSym) → IsValid db.now at.0 goal tree.old.proof → IsValid db.now at.0 goal tree.new.proof) }
     ensures cost { steps.new ≤ steps.old + (depth_of_last tree.old.proof.plain (last_unknown_of (labels_in tree.old.proof.plain)) + 1 + length (premises_of db.now id.0)) }

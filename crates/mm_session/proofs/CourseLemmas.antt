@@ -3,9 +3,9 @@ use Rattle.std.proofs.Common.{◌≡◌, ◌≢◌, ◌==◌, ◌||◌, ◌<◌,
 use Rattle.std.proofs.lemmas.List.Folds.{list_any-append}
 use Rattle.std.proofs.lemmas.Bool.Decides.{nat_tests}
 use Rattle.mm_base.specs.Outside.{CountsFaults, RoseBy}
-use Rattle.mm_effects.specs.declared.reply.Reply.{Reply}
-use Rattle.mm_effects.specs.declared.reply.Reply.TheVariants as reply
-use Rattle.mm_effects.specs.Effect.{Outcome, Fine, Starved, Faulted, outcome, is_faulted}
+use Rattle.mm_step.specs.declared.reply.Reply.{Reply}
+use Rattle.mm_step.specs.declared.reply.Reply.TheVariants as reply
+use Rattle.mm_step.specs.Effects.{Outcome, Fine, Starved, Faulted, outcome, is_faulted}
 use Rattle.mm_session.specs.Session.{has, outcome_of}
 use Rattle.mm_session.specs.Course.{Rise, AreApart}
 

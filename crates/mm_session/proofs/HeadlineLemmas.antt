@@ -7,16 +7,17 @@ use Rattle.mm_base.specs.declared.files.Files.{Ghosts as FilesOf}
 use Rattle.mm_base.specs.declared.sink.Sink.{Ghosts as SinkOf}
 use Rattle.mm_base.specs.Sink.{Gains}
 use Rattle.mm_base.proofs.SinkLemmas.{append_nil, gains_none, gains_then, gains_stopped}
-use Rattle.mm_effects.specs.declared.state.State.{State}
-use Rattle.mm_effects.specs.declared.reply.Reply.{Reply}
-use Rattle.mm_effects.specs.Effect.{Fine, outcome, text_of}
+use Rattle.mm_shell.specs.declared.state.State.{State}
+use Rattle.mm_step.specs.declared.reply.Reply.{Reply}
+use Rattle.mm_step.specs.Effects.{Fine, outcome, text_of}
 use Rattle.mm_session.specs.declared.run.Run.{Run}
 use Rattle.mm_session.specs.declared.session.SessionEnd.{SessionEnd}
 use Rattle.mm_session.specs.Advance.{IsLine, RunsOn}
 use Rattle.mm_session.specs.Calls.{Counted}
 use Rattle.mm_session.specs.Output.{GainsLess, GainsFirst}
 use Rattle.mm_session.proofs.OutputLemmas.{less_of_one, first_after}
-use Rattle.mm_session.specs.Session.{Script, Machine, Maps, maps_of, session, fresh, prompt, echo}
+use Rattle.mm_shell.specs.Changes.{new_state}
+use Rattle.mm_session.specs.Session.{Script, Machine, Maps, maps_of, session, prompt, echo}
 use Rattle.mm_session.specs.Course.{Rise, Follows, script_of}
 use Rattle.mm_session.specs.Headline.{Runs, Reached, EndsWhole, EndsAsking, EndsCut, GivesUp, script_by, with_last, starved_by, faulted_by, before_reply, next_text, last_text, end_status}
 use Rattle.mm_session.specs.Turns.{ended_run, Prompted, HasNext, Finished, Unwritten, Written, RunsTo}
@@ -339,7 +340,7 @@ module _ {F K : Type 0} (fs : FilesOf F) (sk : SinkOf K) where
         }
 
     -- nothing has been run
-    pub nothing_run : (run : Run) → run.state ≡ fresh → run.lines ≡ 0 → run.refused ≡ false → run.starved.items ≡ [] → run.faulted.items ≡ [] →
+    pub nothing_run : (run : Run) → run.state ≡ new_state → run.lines ≡ 0 → run.refused ≡ false → run.starved.items ≡ [] → run.faulted.items ≡ [] →
         Reached fs sk commands begun opened run begun opened
     unfolding session
     nothing_run run state lines refused starved faulted =
@@ -371,7 +372,7 @@ module _ {F K : Type 0} (fs : FilesOf F) (sk : SinkOf K) where
         }
 
     -- there was no memory to begin with
-    pub not_begun : (run : Run) → run.state ≡ fresh → run.lines ≡ 0 → run.refused ≡ false → run.starved.items ≡ [] → run.faulted.items ≡ [] →
+    pub not_begun : (run : Run) → run.state ≡ new_state → run.lines ≡ 0 → run.refused ≡ false → run.starved.items ≡ [] → run.faulted.items ≡ [] →
         Runs fs sk commands taken begun opened (ended_run 5 run) begun opened
     unfolding session
     not_begun run state lines refused starved faulted =

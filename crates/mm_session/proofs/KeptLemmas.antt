@@ -4,7 +4,7 @@ use Rattle.std.proofs.lemmas.Bool.{cases_lt}
 use Rattle.std.proofs.lemmas.Bool.Decides.{nat_tests}
 use Rattle.std.proofs.lemmas.List.{take_all, length-take-le}
 use Rattle.mm_command.specs.Table.{line_said}
-use Rattle.mm_effects.specs.Asked.{TooLong, asked_by, asked_of}
+use Rattle.mm_step.specs.Asked.{TooLong, asked_by, asked_of}
 use Rattle.mm_session.specs.Session.{shown}
 use Rattle.mm_lines.specs.Lines.{kept}
 use Rattle.mm_session.specs.Advance.{IsLine}

@@ -3,6 +3,7 @@ mod ComingLemmas
 pub mod HeadlineLemmas
 mod KeptLemmas
 pub mod LawLemmas
+pub mod SoundLemmas
 pub mod SessionLemmas
 mod TakenLemmas
 mod TurnLemmas

@@ -5,19 +5,21 @@ use Rattle.std.proofs.lemmas.Bool.Decides.{nat_tests}
 use Rattle.mm_base.specs.declared.files.Files.{Ghosts as FilesOf}
 use Rattle.mm_base.specs.Files.{Map, put}
 use Rattle.mm_base.specs.Outside.{CountsFaults}
-use Rattle.mm_effects.specs.declared.state.State.{State}
-use Rattle.mm_effects.specs.declared.reply.Reply.{Reply}
-use Rattle.mm_effects.specs.declared.reply.Reply.TheVariants as reply
+use Rattle.mm_shell.specs.declared.state.State.{State}
+use Rattle.mm_step.specs.declared.reply.Reply.{Reply}
+use Rattle.mm_step.specs.declared.reply.Reply.TheVariants as reply
 use Rattle.mm_session.specs.declared.run.Run.{Run}
-use Rattle.mm_effects.specs.Effect.{Effect, Outcome, Fine, Starved, Faulted, Meets, outcome, ended, is_faulted, is_refused, text_of, with_puts, add_put}
-use Rattle.mm_effects.specs.Asked.{Asked}
-use Rattle.mm_effects.specs.Effects.{asked_effect, step_of}
+use Rattle.mm_step.specs.Effects.{Effect, Outcome, Fine, Starved, Faulted, Meets, outcome, ended, is_faulted, is_refused, text_of, with_puts, add_put}
+use Rattle.mm_step.specs.Asked.{Asked, asked_of}
+use Rattle.mm_step.specs.Effects.{asked_effect, step_of}
 use Rattle.mm_session.specs.Session.{Script, Machine, Turn, Maps, session, turn, turn_in, after, outcome_of, effect_of, calls_of, starved_calls_of, prompt, echo}
 use Rattle.mm_session.specs.Course.{Follows, script, script_of}
-use Rattle.mm_effects.specs.Calls.{Fails, one_more}
-use Rattle.mm_effects.proofs.FrameLemmas.{ends_silently}
+use Rattle.mm_step.specs.Calls.{Fails, one_more}
+use Rattle.mm_step.proofs.LawLemmas.{ends_silently}
+use Rattle.mm_shell.specs.Sound.{IsSound}
+use Rattle.mm_session.proofs.SoundLemmas.{session_is_sound}
 use Rattle.mm_session.specs.Calls.{HasCause, FaultsExactly, CallsRise, Counted, count_of}
-use Rattle.mm_effects.specs.Ran.{HasRun}
+use Rattle.mm_step.specs.Ran.{HasRun}
 use Rattle.mm_session.specs.Advance.{IsLine, GoesOn, RunsOn}
 use Rattle.mm_session.proofs.CourseLemmas.{starved_after, faulted_after, outcome_now, outcome_before, rise_starved, rise_faulted, apart_after, rose_after, held_after, not_starved, was_none}
 
@@ -103,10 +105,11 @@ add_most Faulted true c c' s m k le if_not (inl e) = omega (arith, le, e)
 add_most Faulted true c c' s m k le if_not (inr e) = omega (arith, le, e)
 
 -- where the session has ended by a command, it ended as it should and has no text
-ends_fine : (state state' : State) (map : Map) (line : List ℕ) (r : Reply) → state.ended ≡ false → Meets (step_of state map line) state r state' → state'.ended ≡ true → (outcome r ≡ Fine) × (text_of r ≡ [])
-ends_fine state state' map line (reply.Done text refused) on m off = (refl, m.text ∙ ends_silently state map line on (ap (λ (s : State). s.ended) (sym m.state) ∙ off))
-ends_fine state state' map line reply.Starved on m off = let no : true ≡ false = sym off ∙ (ap (λ (s : State). s.ended) m.state ∙ on) in absurd (cc)
-ends_fine state state' map line reply.Faulted on m off = let no : true ≡ false = sym off ∙ (ap (λ (s : State). s.ended) m.state ∙ on) in absurd (cc)
+ends_fine : (state state' : State) (map : Map) (line : List ℕ) (r : Reply) → IsSound state → state.ended ≡ false → Meets (step_of state map line) state r state' → state'.ended ≡ true → (outcome r ≡ Fine) × (text_of r ≡ [])
+unfolding step_of
+ends_fine state state' map line (reply.Done text refused) sound on m off = (refl, m.text ∙ ends_silently (asked_of line) state map sound on (ap (λ (s : State). s.ended) (sym m.state) ∙ off))
+ends_fine state state' map line reply.Starved sound on m off = let no : true ≡ false = sym off ∙ (ap (λ (s : State). s.ended) m.state ∙ on) in absurd (cc)
+ends_fine state state' map line reply.Faulted sound on m off = let no : true ≡ false = sym off ∙ (ap (λ (s : State). s.ended) m.state ∙ on) in absurd (cc)
 
 fails_at : (xs : List ℕ) (a b : ℕ) → count_of a ≡ b → Fails xs a → Fails xs b
 fails_at xs a b e f = let lt : a < 18446744073709551615 = f.0 in let is : a ≡ b = omega arith in subst (λ (n : ℕ). Fails xs n) is f
@@ -246,7 +249,7 @@ module _ {F : Type 0} (fs : FilesOf F) (s : Script) (begun : F) (n : ℕ) (state
     earlier = session_before n (omega arith);
     text = ap (λ (m : Machine). m.text) goes ∙ ap (λ (x : List ℕ). (session s n).text ++ ((prompt state ++ echo line) ++ x)) (sym t.has_run.meets.text);
     counted = counted_on;
-    ends = ends_fine state state' t.has_run.map line r t.open_still t.has_run.meets;
+    ends = ends_fine state state' t.has_run.map line r (subst IsSound (sym t.follows.state_is) (session_is_sound s n)) t.open_still t.has_run.meets;
   }
 
   -- the same, where the lists are named otherwise

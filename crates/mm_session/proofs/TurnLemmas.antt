@@ -12,17 +12,18 @@ use Rattle.mm_session.specs.declared.commands.Commands.{Commands}
 use Rattle.mm_session.specs.declared.run.Run.{Run}
 use Rattle.mm_session.specs.declared.turn.Turn.{Turn}
 use Rattle.mm_session.specs.declared.turn.Turn.TheVariants.{GoesOn, Ended}
-use Rattle.mm_effects.specs.declared.state.State.{State}
+use Rattle.mm_shell.specs.declared.state.State.{State}
 use Rattle.mm_lines.specs.Lines.{lines_of}
 use Rattle.mm_session.specs.Output.{GainsLess}
-use Rattle.mm_session.specs.Session.{fresh, prompt}
+use Rattle.mm_shell.specs.Changes.{new_state}
+use Rattle.mm_session.specs.Session.{prompt}
 use Rattle.mm_session.specs.Coming.{Came, ComesNext, ComesToEnd, ComesToStop, line_in, no_line, to_come}
 use Rattle.mm_session.specs.Taken.{Takes, wants_more, ends_by_command}
 use Rattle.mm_session.specs.Headline.{IsSession, end_status}
 use Rattle.mm_session.specs.Turns.{Stands, Turns, Prompted, HasNext, Answers, AnswerEnds, Unechoed, Untold, GivenUp, Exits, Finishes, Finished, Unwritten, Written, ended_run}
-use Rattle.mm_effects.specs.Sound.{IsSound}
+use Rattle.mm_shell.specs.Sound.{IsSound}
 use Rattle.mm_session.specs.Course.{script_of}
-use Rattle.mm_session.proofs.LawLemmas.{session_is_sound}
+use Rattle.mm_session.proofs.SoundLemmas.{session_is_sound}
 use Rattle.mm_session.proofs.HeadlineLemmas.{nothing_run, not_begun, cut_at_prompt, input_failed, input_spent, finishes}
 use Rattle.mm_session.proofs.TakenLemmas.{came_none, count_taken, takes_none, takes_run, takes_cut, takes_all, takes_stopped}
 
@@ -175,7 +176,7 @@ module _ {F S K : Type 0} (fs : FilesOf F) (src : SourceOf S) (sk : SinkOf K) (w
           takes = takes_answered run' status _ a.0 (λ lt. ap (λ s. s.ended) (a.1.state lt));
         }
 
-module _ {F S K : Type 0} (fs : FilesOf F) (src : SourceOf S) (sk : SinkOf K) (words : List (List ℕ)) (begun : F) (was : S) (opened : K) (run : Run) (state : run.state ≡ fresh) (lines : run.lines ≡ 0) (refused : run.refused ≡ false) (starved : run.starved.items ≡ []) (faulted : run.faulted.items ≡ []) where
+module _ {F S K : Type 0} (fs : FilesOf F) (src : SourceOf S) (sk : SinkOf K) (words : List (List ℕ)) (begun : F) (was : S) (opened : K) (run : Run) (state : run.state ≡ new_state) (lines : run.lines ≡ 0) (refused : run.refused ≡ false) (starved : run.starved.items ≡ []) (faulted : run.faulted.items ≡ []) where
   -- a session begins
   pub session_begins : (c : Commands) → c.words.now ≡ words → c.next ≡ 0 → c.reader ≡ no_line → Stands fs src sk words begun was opened c run begun was opened
   session_begins c is_words is_next is_reader = record {

@@ -1,14 +1,14 @@
 -- What the next command of a session does.
 use Rattle.std.specs.Prelude.{◌≡◌, ℕ, suc, Bool, true, false, List, [], ◌∷◌, ◌++◌, length, slice_index_or}
 use Rattle.mm_base.specs.declared.files.Files.{Ghosts as FilesOf}
-use Rattle.mm_effects.specs.declared.state.State.{State}
-use Rattle.mm_effects.specs.declared.reply.Reply.{Reply}
-use Rattle.mm_effects.specs.declared.reply.Reply.TheVariants as reply
+use Rattle.mm_shell.specs.declared.state.State.{State}
+use Rattle.mm_step.specs.declared.reply.Reply.{Reply}
+use Rattle.mm_step.specs.declared.reply.Reply.TheVariants as reply
 use Rattle.mm_session.specs.declared.run.Run.{Run}
 use Rattle.mm_session.specs.declared.advance.Progress.{Progress}
 use Rattle.mm_session.specs.declared.advance.Progress.TheVariants as progress
-use Rattle.mm_effects.specs.Asked.{asked_of}
-use Rattle.mm_effects.specs.Effect.{Fine, outcome, text_of}
+use Rattle.mm_step.specs.Asked.{asked_of}
+use Rattle.mm_step.specs.Effects.{Fine, outcome, text_of}
 use Rattle.mm_session.specs.Calls.{Counted}
 use Rattle.mm_session.specs.Session.{Script, Maps, session, prompt, shown, echo}
 use Rattle.mm_session.specs.Course.{Follows, script, script_of}

@@ -1,8 +1,8 @@
 -- Why commands end as they do, and how many calls they make on the files.
 use Rattle.std.specs.Prelude.{◌≡◌, ◌<◌, ◌≤◌, ◌+◌, ◌↔◌, ℕ, true, false, IsTrue, [], min}
 use Rattle.mm_base.specs.declared.files.Files.{Ghosts as FilesOf}
-use Rattle.mm_effects.specs.Calls.{Fails}
-use Rattle.mm_effects.specs.Effect.{Starved, Faulted}
+use Rattle.mm_step.specs.Calls.{Fails}
+use Rattle.mm_step.specs.Effects.{Starved, Faulted}
 use Rattle.mm_session.specs.Session.{Script, Machine, Turn, turn, session, effect_of}
 
 -- A command is run before the session has ended. It starves only where it takes memory, and meets a file fault only

@@ -2,9 +2,9 @@
 use Rattle.std.specs.Prelude.{◌≡◌, ◌<◌, ◌≤◌, ℕ, Bool, true, false, IsTrue, List, [], ◌∷◌, length}
 use Rattle.mm_base.specs.declared.files.Files.{Ghosts as FilesOf}
 use Rattle.mm_base.specs.Outside.{RoseBy}
-use Rattle.mm_effects.specs.declared.state.State.{State}
+use Rattle.mm_shell.specs.declared.state.State.{State}
 use Rattle.mm_session.specs.declared.run.Run.{Run}
-use Rattle.mm_effects.specs.Effect.{with_puts}
+use Rattle.mm_step.specs.Effects.{with_puts}
 use Rattle.mm_session.specs.Calls.{HasCause}
 use Rattle.mm_session.specs.Session.{Script, Maps, maps_of, has, session, turn}
 

@@ -8,8 +8,8 @@ use Rattle.mm_base.specs.Sink.{Gains}
 use Rattle.mm_lines.specs.Lines.{lines_of}
 use Rattle.mm_session.specs.declared.session.SessionEnd.{SessionEnd}
 use Rattle.mm_session.specs.declared.run.Run.{Run}
-use Rattle.mm_effects.specs.declared.state.State.{State}
-use Rattle.mm_effects.specs.Effect.{with_puts}
+use Rattle.mm_shell.specs.declared.state.State.{State}
+use Rattle.mm_step.specs.Effects.{with_puts}
 use Rattle.mm_session.specs.Calls.{HasCause, FaultsExactly, Counted, CallsRise, CallsRiseExactly}
 use Rattle.mm_session.specs.Session.{Script, Maps, maps_of, session, turn, prompt, echo}
 use Rattle.mm_session.specs.Course.{Rise, AreApart, Follows, script, script_of}

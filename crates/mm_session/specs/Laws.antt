@@ -1,29 +1,32 @@
 -- What the session machine means in the words of databases.
-use Rattle.std.specs.Prelude.{◌≡◌, ℕ, suc, true, false, List, Some}
+use Rattle.std.specs.Prelude.{◌≡◌, ℕ, suc, true, false, List, Some, Ok}
 use Rattle.mm_scope.specs.Contents.{is_read}
 use Rattle.mm_stack.specs.Accepting.{Accepts}
 use Rattle.mm_command.specs.Meanings.{Read, VerifyProof}
-use Rattle.mm_effects.specs.Asked.{Asks, asked_of, is_pattern}
-use Rattle.mm_effects.specs.Sound.{IsSound}
-use Rattle.mm_effects.specs.Verdicts.{checked_text}
+use Rattle.mm_stack.specs.declared.outcome.Verdict.TheVariants.{Accepted}
+use Rattle.mm_shell.specs.Answers.{reports}
+use Rattle.mm_shell.specs.declared.answer.Change.{Change}
+use Rattle.mm_shell.specs.declared.report.Report.TheVariants.{Verified}
+use Rattle.mm_database_commands.specs.Commands.{is_pattern}
+use Rattle.mm_step.specs.Asked.{Asks, asked_of}
+use Rattle.mm_shell.specs.Sound.{IsSound}
 use Rattle.mm_session.specs.Session.{Script, Turn, session, turn, effect_of, done}
 
--- The command asks for the proof with a label, and the database that was read accepts it.
-pub record IsAccepted (t : Turn) : Type 0 where
-  pub bytes : List ℕ
-  pub label : List ℕ
+-- The command asks for the proof with a label, and the database, which has these bytes, accepts it.
+pub record IsAccepted (t : Turn) (bytes label : List ℕ) : Type 0 where
   pub asked : asked_of t.line ≡ Asks (VerifyProof label)
   pub plain : is_pattern label ≡ false
   pub database : t.machine.state.database ≡ Some bytes
   pub accepts : Accepts bytes label
 
--- Where a command says that a proof is accepted, it is.
+-- Where a command reports that a proof is accepted, the database accepts it.
 abbrev pub SaysAccepted : Type 0
-SaysAccepted = (s : Script) (n : ℕ) → (effect_of (turn s n)).text ≡ checked_text 1 0 0 → IsAccepted (turn s n)
+SaysAccepted = (s : Script) (n : ℕ) (bytes label : List ℕ) (change : Change) → (effect_of (turn s n)).answer ≡ Ok (record { report = Verified bytes label Accepted; change = change })
+    → ((session s n).state.database ≡ Some bytes) × Accepts bytes label
 
--- Where a command asks for a proof that is accepted, it says so.
+-- Where a command asks for a proof that is accepted, it reports so.
 abbrev pub AcceptedIsSaid : Type 0
-AcceptedIsSaid = (s : Script) (n : ℕ) → IsAccepted (turn s n) → (effect_of (turn s n)).text ≡ checked_text 1 0 0
+AcceptedIsSaid = (s : Script) (n : ℕ) (bytes label : List ℕ) → IsAccepted (turn s n) bytes label → (effect_of (turn s n)).answer ≡ reports (Verified bytes label Accepted)
 
 -- After any number of commands the database, if there is one, was read and has no fault; and a proof in hand is a valid one
 -- of the statement of a theorem of that database.

@@ -1,38 +1,61 @@
--- What a session has saved, and which theorems hold by it.
-use Rattle.std.specs.Prelude.{◌≡◌, ◌+◌, ℕ, zero, suc, Bool, true, false, List, Option, Some}
+-- What a session has saved, which theorems are accepted by it, and where its database comes from.
+use Rattle.std.specs.Prelude.{◌≡◌, ◌+◌, ℕ, zero, suc, Bool, true, false, List, [], ◌∷◌, ◌++◌, Option, None, Some}
+use Rattle.mm_plain.specs.Labels.{label_at}
 use Rattle.mm_stack.specs.Accepting.{Accepts}
-use Rattle.mm_command.specs.Meanings.{Read}
-use Rattle.mm_effects.specs.Asked.{Asks, asked_of}
-use Rattle.mm_effects.specs.Saves.{Save, saved_by, with_save, last_complete, HoldsIn}
+use Rattle.mm_splice.specs.Agreeing.{AgreesWith}
+use Rattle.mm_splice.specs.Overlay as splice
+use Rattle.mm_splice.specs.Overlay.{last_text}
+use Rattle.mm_command.specs.Meanings.{Read, WriteSource}
+use Rattle.mm_shell.specs.Saves.{Save, saved_by, with_save, last_complete}
+use Rattle.mm_step.specs.Asked.{Asks, asked_of}
 use Rattle.mm_session.specs.Session.{Script, Turn, session, turn, done}
 
 -- what a command saved
 abbrev pub save_in : Turn → Option Save
-save_in t = saved_by (asked_of t.line) t.machine.state (done t).refused
+save_in t = saved_by (done t).answer
 
--- whether the theorem with this label was saved among the first n commands, the last time with a complete proof
-unfoldable pub is_proved : Script → ℕ → List ℕ → Bool
-is_proved s zero label = false
-is_proved s (suc n) label = last_complete label (save_in (turn s n)) (is_proved s n label)
+-- ## Theorems that are accepted
 
--- A theorem whose last save was complete holds in the database.
+-- whether the theorem with this number was saved among the first n commands, the last time with a complete proof
+unfoldable pub is_proved : Script → ℕ → ℕ → Bool
+is_proved s zero theorem = false
+is_proved s (suc n) theorem = last_complete theorem (save_in (turn s n)) (is_proved s n theorem)
+
+abbrev pub AcceptsIn : Option (List ℕ) → ℕ → Type 0
+AcceptsIn None theorem = ⊥
+AcceptsIn (Some bytes) theorem = Accepts bytes (label_at bytes theorem)
+
+-- A theorem whose last save was complete is accepted in the database.
 abbrev pub SavedTheoremsHold : Type 0
-SavedTheoremsHold = (s : Script) (n : ℕ) (label : List ℕ) → is_proved s n label ≡ true → HoldsIn (session s n).state.database label
+SavedTheoremsHold = (s : Script) (n theorem : ℕ) → is_proved s n theorem ≡ true → AcceptsIn (session s n).state.database theorem
 
--- It holds in whatever is put into the files then.
+-- It is accepted in whatever WRITE SOURCE puts into the files then.
 abbrev pub WrittenTheoremsHold : Type 0
-WrittenTheoremsHold = (s : Script) (n : ℕ) (label : List ℕ) (put : List ℕ × List ℕ) → is_proved s n label ≡ true → (done (turn s n)).put ≡ Some put → Accepts put.1 label
+WrittenTheoremsHold = (s : Script) (n theorem : ℕ) (name : List ℕ) (put : List ℕ × List ℕ) → is_proved s n theorem ≡ true → asked_of (turn s n).line ≡ Asks (WriteSource name) → (done (turn s n)).put ≡ Some put
+    → Accepts put.1 (label_at put.1 theorem)
 
--- the database with what n commands saved after the first m commands, each save after those before it
-unfoldable pub saved_since : Script → ℕ → List ℕ → ℕ → List ℕ
-saved_since s m bytes zero = bytes
-saved_since s m bytes (suc n) = with_save (saved_since s m bytes n) (save_in (turn s (m + n)))
+-- What WRITE SOURCE puts into the files is the database as it stands.
+abbrev pub PutsTheDatabase : Type 0
+PutsTheDatabase = (s : Script) (n : ℕ) (name : List ℕ) (put : List ℕ × List ℕ) → asked_of (turn s n).line ≡ Asks (WriteSource name) → (done (turn s n)).put ≡ Some put → (session s n).state.database ≡ Some put.1
 
--- A database is what it was, with the proofs saved since and nothing else.
+-- ## Where a database comes from
+
+-- A database changes by saves alone: what a command leaves is what it met, with what it saved.
 abbrev pub OnlySavesChange : Type 0
-OnlySavesChange = (s : Script) (m : ℕ) (bytes : List ℕ) → (session s m).state.database ≡ Some bytes → (n : ℕ) → (session s (m + n)).state.database ≡ Some (saved_since s m bytes n)
+OnlySavesChange = (s : Script) (n : ℕ) (bytes : List ℕ) → (session s n).state.database ≡ Some bytes → (session s (suc n)).state.database ≡ Some (with_save bytes (save_in (turn s n)))
 
--- A database was read from a file by one of the first n commands, and is that file's bytes with the proofs saved since.
+-- saves, and one more after them
+abbrev pub and_save : List splice.Save → Option Save → List splice.Save
+and_save saves None = saves
+and_save saves (Some save) = saves ++ record { theorem = save.theorem; text = save.text } ∷ []
+
+-- what was saved by the n commands after the first m, in order
+unfoldable pub saves_since : Script → ℕ → ℕ → List splice.Save
+saves_since s m zero = []
+saves_since s m (suc n) = and_save (saves_since s m n) (save_in (turn s (m + n)))
+
+-- A database was read from a file by one of the first n commands. It is that file, overlaid with the last text that was
+-- saved since of each theorem that was saved, and nothing else; so all else is as it was read.
 pub record IsFromFile (s : Script) (n : ℕ) (bytes : List ℕ) : Type 0 where
   -- how many commands came before the one that read it, and how many since
   pub read : ℕ
@@ -42,11 +65,7 @@ pub record IsFromFile (s : Script) (n : ℕ) (bytes : List ℕ) : Type 0 where
   pub when : n ≡ suc read + since
   pub asked : asked_of (turn s read).line ≡ Asks (Read name)
   pub found : (turn s read).map name ≡ Some file
-  pub is : bytes ≡ saved_since s (suc read) file since
+  pub agrees : AgreesWith file (last_text (saves_since s (suc read) since)) bytes
 
 abbrev pub DatabasesAreFromFiles : Type 0
 DatabasesAreFromFiles = (s : Script) (n : ℕ) (bytes : List ℕ) → (session s n).state.database ≡ Some bytes → IsFromFile s n bytes
-
--- What is put into the files is the database as it stands.
-abbrev pub PutsTheDatabase : Type 0
-PutsTheDatabase = (s : Script) (n : ℕ) (put : List ℕ × List ℕ) → (done (turn s n)).put ≡ Some put → (session s n).state.database ≡ Some put.1

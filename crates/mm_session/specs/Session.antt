@@ -2,18 +2,19 @@
 use Rattle.std.specs.Prelude.{◌||◌, ◌==◌, ◌+◌, ℕ, suc, zero, Bool, false, List, [], ◌∷◌, ◌++◌, Option, None, Some, if◌then◌else◌, nat_le, length, codes, slice_index_or}
 use Rattle.std.specs.List.{list_any}
 use Rattle.mm_base.specs.Files.{Map}
-use Rattle.mm_effects.specs.declared.state.Hand.{Hand}
-use Rattle.mm_effects.specs.declared.state.State.{State}
-use Rattle.mm_effects.specs.Effect.{Effect, Outcome, Fine, Starved, Faulted, ended, with_puts, add_put}
-use Rattle.mm_effects.specs.Effects.{step_of}
+use Rattle.mm_shell.specs.Changes.{new_state}
+use Rattle.mm_shell.specs.OpenProofs.{ProofState}
+use Rattle.mm_shell.specs.declared.state.State.{State}
+use Rattle.mm_step.specs.Effects.{Effect, Outcome, Fine, Starved, Faulted, ended, with_puts, add_put}
+use Rattle.mm_step.specs.Effects.{step_of}
 
-abbrev pub prompt_by : Option Hand → List ℕ
+abbrev pub prompt_by : Option ProofState → List ℕ
 prompt_by None = codes "MM> "
-prompt_by (Some hand) = codes "MM-PA> "
+prompt_by (Some p) = codes "MM-PA> "
 
 -- the prompt tells whether a proof is in hand
 abbrev pub prompt : State → List ℕ
-prompt state = prompt_by state.hand
+prompt state = prompt_by state.open_proof
 
 -- a line as it is echoed: one of more than 65,536 bytes as empty
 abbrev pub shown : List ℕ → List ℕ
@@ -101,12 +102,8 @@ after_effect m line outcome effect = record {
 abbrev pub after : Turn → Machine
 after t = after_effect t.machine t.line t.outcome (done t)
 
--- the state in which a session begins
-abbrev pub fresh : State
-fresh = record { database = None; hand = None; unwritten = false; ended = false }
-
 abbrev pub start : Machine
-start = record { state = fresh; puts = []; text = []; refused = false; calls = 0; starved_calls = 0 }
+start = record { state = new_state; puts = []; text = []; refused = false; calls = 0; starved_calls = 0 }
 
 -- the command after n others, in this session
 abbrev pub turn_in : Machine → Script → ℕ → Turn

@@ -1,10 +1,10 @@
 ghost use Rattle.std.specs.Prelude.{◌≡◌, ◌+◌, ◌<◌, IsTrue};
-ghost use Rattle.mm_effects.specs.Sound.{IsSound};
+ghost use Rattle.mm_shell.specs.Sound.{IsSound};
 ghost use Rattle.mm_session.specs.Advance.{Advances, IsLine};
 
 use crate::run::Run;
 use mm_base::{Files, Steps};
-use mm_effects::{Reply, step};
+use mm_step::{Reply, step};
 use std::alloc::Global;
 use std::sync::ledger::Ledger;
 
@@ -19,13 +19,13 @@ pub enum Progress {
     Faulted,
 }
 
-/// Runs the next command. It is the place that hands the ledger on to the command.
+/// Runs the next command. The nodes that it makes are counted in `steps`.
 pub fn advance<F: Files, L: Ledger>(
     alloc: Global,
     run: &mut Run,
     files: &mut F,
     line: &[u8],
-    _steps: &mut Steps<L>,
+    steps: &mut Steps<L>,
 ) -> Progress
     requires fits { run.old.lines + 1 < 18446744073709551616 }
     requires sound { IsSound run.old.state }
@@ -33,7 +33,7 @@ pub fn advance<F: Files, L: Ledger>(
     ensures goes { (whole : _) (commands : _) (maps : _) (begun : _) → IsLine line.now whole → Advances ⟦<F as Files>⟧ commands maps begun run.old files.old whole result run.new files.new }
 {
     run.lines += 1;
-    match step(alloc, &mut run.state, files, line) {
+    match step(alloc, &mut run.state, files, line, steps) {
         Reply::Starved => {
             if run.starved.is_full() {
                 return Progress::Starved;

@@ -1,5 +1,5 @@
 ghost use Rattle.std.specs.Prelude.{◌≡◌, List, ℕ, take};
-ghost use Rattle.mm_effects.specs.Asked.{asked_of};
+ghost use Rattle.mm_step.specs.Asked.{asked_of};
 ghost use Rattle.mm_session.specs.Session.{shown};
 ghost use Rattle.mm_session.specs.Laws.{SaysAccepted, AcceptedIsSaid, RefusedChangesNothing, SessionIsSound, ReadIsWhole};
 ghost use Rattle.mm_session.specs.Saves.{DatabasesAreFromFiles, OnlySavesChange, PutsTheDatabase, SavedTheoremsHold, WrittenTheoremsHold};

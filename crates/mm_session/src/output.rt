@@ -1,12 +1,14 @@
 ghost use Rattle.std.specs.Prelude.{◌≡◌, ◌++◌, ◌∷◌, ◌<◌, [], length, take, IfErr, OnOk, OnErr, is_err};
 ghost use Rattle.mm_base.specs.Outside.{CountsFaults};
 ghost use Rattle.mm_base.specs.Sink.{Gains};
-ghost use Rattle.mm_effects.specs.Effect.{text_of};
+ghost use Rattle.mm_step.specs.Effects.{text_of};
 ghost use Rattle.mm_session.specs.Output.{GainsLess};
 ghost use Rattle.mm_session.specs.Session.{prompt, echo, shown};
 
 use mm_base::{Failed, ShortWrite, Sink, write_all};
-use mm_effects::{MAX_LINE, Reply, State};
+use mm_shell::State;
+use mm_step::{MAX_LINE, Reply};
+use std::alloc::Global;
 
 /// Where the transcript goes: every piece of it is said here.
 #[derive(Drop)]
@@ -66,13 +68,14 @@ impl<'a, K: Sink> Output<'a, K> {
     }
 
     /// Says the text of a reply.
-    pub fn reply(&mut self, reply: &Reply) -> Result<(), Failed>
+    pub fn reply(&mut self, alloc: Global, reply: Reply) -> Result<(), Failed>
         ensures same { self.new.screen.ghost_name ≡ self.old.screen.ghost_name }
-        ensures ok { OnOk result (Gains K.tells K.held self.old.screen.now self.new.screen.now (text_of reply.now)) }
-        ensures err { OnErr result (GainsLess K.tells K.held self.old.screen.now self.new.screen.now (text_of reply.now)) }
+        ensures ok { OnOk result (Gains K.tells K.held self.old.screen.now self.new.screen.now (text_of reply)) }
+        ensures err { OnErr result (GainsLess K.tells K.held self.old.screen.now self.new.screen.now (text_of reply)) }
         ensures cause { CountsFaults (is_err result) (K.faults self.old.screen.now) (K.faults self.new.screen.now) }
     {
-        let (front, middle, rest) = pieces(reply);
+        let text = reply.into_text(alloc);
+        let (front, middle, rest) = text.pieces();
         self.say(front)?;
         self.say(middle)?;
         Ok(self.say(rest)?)
@@ -82,7 +85,7 @@ impl<'a, K: Sink> Output<'a, K> {
 fn prompt_of(state: &State) -> &'static [u8]
     ensures { result.now ≡ prompt state.now }
 {
-    match state.hand {
+    match state.open_proof {
         Some(_) => b"MM-PA> ",
         None => b"MM> ",
     }
@@ -93,16 +96,4 @@ fn shown(line: &[u8]) -> &[u8]
     ensures { result.now ≡ shown line.now }
 {
     if line.len() <= MAX_LINE { line } else { &[] }
-}
-
-// The text of a reply, in its pieces.
-#[tactic(auto, unfolding(mm_effects::specs::Texts::memory_text, mm_effects::specs::Texts::file_fault_text))]
-fn pieces(reply: &Reply) -> (&'static [u8], &[u8], &[u8])
-    ensures { text_of reply.now ≡ result.0.now ++ (result.1.now ++ result.2.now) }
-{
-    match reply {
-        Reply::Done { text, .. } => text.pieces(),
-        Reply::Starved => (b"?C42: out of memory\n", &[], &[]),
-        Reply::Faulted => (b"?C40: file fault\n", &[], &[]),
-    }
 }

@@ -1,8 +1,8 @@
 ghost use Rattle.std.specs.Prelude.{◌≡◌, [], false};
-ghost use Rattle.mm_session.specs.Session.{fresh};
+ghost use Rattle.mm_shell.specs.Changes.{new_state};
 
 use arrayvec::ArrayVec;
-use mm_effects::State;
+use mm_shell::State;
 
 /// How far a session has come.
 #[derive(Drop)]
@@ -21,19 +21,14 @@ pub struct Run {
 impl Run {
     /// Nothing has been run.
     pub fn new() -> Run
-        ensures state { result.state ≡ fresh }
+        ensures state { result.state ≡ new_state }
         ensures lines { result.lines ≡ 0 }
         ensures refused { result.refused ≡ false }
         ensures starved { result.starved.items ≡ [] }
         ensures faulted { result.faulted.items ≡ [] }
     {
         Run {
-            state: State {
-                database: None,
-                hand: None,
-                unwritten: false,
-                ended: false,
-            },
+            state: State::new(),
             lines: 0,
             refused: false,
             starved: ArrayVec::new(),

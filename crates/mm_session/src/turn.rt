@@ -1,6 +1,6 @@
 ghost use Rattle.std.specs.Prelude.{◌≡◌, ◌+◌, ◌<◌, false};
 ghost use Rattle.mm_base.specs.Outside.{CountsFaults};
-ghost use Rattle.mm_effects.specs.Sound.{IsSound};
+ghost use Rattle.mm_shell.specs.Sound.{IsSound};
 ghost use Rattle.mm_session.specs.Headline.{end_status};
 ghost use Rattle.mm_session.specs.Turns.{Answers, Finishes, HasNext, Prompted, Stands, Turns, has_status};
 
@@ -91,7 +91,7 @@ fn answer<F: Files, K: Sink, L: Ledger>(
         Progress::Starved => Turn::Ended(5),
         Progress::Faulted => Turn::Ended(6),
         Progress::Replied(reply) => {
-            if output.reply(&reply).is_err() {
+            if output.reply(alloc, reply).is_err() {
                 return Turn::Ended(4);
             }
             if run.state.ended {

@@ -1,4 +1,4 @@
-use Rattle.mm_session.proofs.LawLemmas.{session_is_sound}
+use Rattle.mm_session.proofs.SoundLemmas.{session_is_sound}
 use Rattle.mm_session.proofs.law.proofs_in_hand_are_valid.Goals as goal
 
 pub returns : goal.returns

@@ -2,7 +2,7 @@ use Rattle.std.proofs.Common.{refl, sym, subst}
 use Rattle.mm_session.specs.declared.session.SessionEnd.{SessionEnd}
 use Rattle.mm_session.specs.Headline.{IsSession}
 use Rattle.mm_session.proofs.RefusedLemmas.{refused_changes_nothing}
-use Rattle.mm_session.proofs.LawLemmas.{session_is_sound}
+use Rattle.mm_session.proofs.SoundLemmas.{session_is_sound}
 use Rattle.mm_session.proofs.OriginLemmas.{databases_are_from_files}
 use Rattle.mm_session.proofs.SavesLemmas.{puts_the_database, written_theorems_hold}
 use Rattle.mm_session.proofs.TurnLemmas.{session_begins, session_starves, stands_sound}

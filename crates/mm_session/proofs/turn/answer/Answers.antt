@@ -1,5 +1,5 @@
 use Rattle.std.proofs.Common.{◌≡◌, ◌+◌, ℕ, suc, refl, arith}
-use Rattle.mm_effects.specs.declared.reply.Reply.TheVariants as reply
+use Rattle.mm_step.specs.declared.reply.Reply.TheVariants as reply
 use Rattle.mm_session.specs.Turns.{Unechoed, Untold, GivenUp, Exits}
 use Rattle.mm_session.proofs.HeadlineLemmas.{err_gives, ok_gives, cut_at_echo, cut_at_text, gives_up_starved, gives_up_faulted, reaches, exits}
 use Rattle.mm_session.proofs.turn.answer.Goals as goal

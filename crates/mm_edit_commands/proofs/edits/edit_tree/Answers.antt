@@ -1,0 +1,6 @@
+use Rattle.mm_edit_commands.specs.Edits.{edit_of}
+use Rattle.mm_edit_commands.proofs.edits.edit_tree.Goals as goal
+
+pub returns-in-Assign : goal.returns-in-Assign
+unfolding edit_of
+returns-in-Assign g c = rw c.in-Assign.is c.assign.ensures

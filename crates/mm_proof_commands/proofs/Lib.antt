@@ -1,0 +1,3 @@
+pub mod SaveLemmas
+pub mod CompleteLemmas
+pub mod ProofFits

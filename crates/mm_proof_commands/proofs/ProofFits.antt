@@ -1,0 +1,160 @@
+-- The answers of the commands on the open proof fit a sound state.
+use Rattle.std.proofs.Common.{◌<◌, ◌≡◌, ◌≤◌, ℕ, Bool, true, false, not, nat_lt, List, [], ◌∷◌, length, slice_get, Option, None, Some, Result, Ok, Err, refl, sym, ◌∙◌, ap, subst, arith, true≢false, if◌then◌else◌, position}
+use Rattle.std.specs.Str.{bytes_eq}
+use Rattle.mm_scope.specs.Contents.{is_read, distinct_at, labels_of, stated_at, find_label}
+use Rattle.mm_scope.specs.Judged.{most_bytes}
+use Rattle.mm_stated.specs.declared.statement.Kind.TheVariants.{Theorem}
+use Rattle.mm_plain.specs.declared.plain.Plain.{Plain}
+use Rattle.mm_plain.specs.Valid.{first_setting}
+use Rattle.mm_plain.specs.Numbers.{HasOwnLabels, pending_in}
+use Rattle.mm_plain.proofs.Kept.{valid-start}
+use Rattle.mm_plain.specs.Labels.{label_at}
+use Rattle.mm_plain.proofs.Labels.{has_label}
+use Rattle.mm_plain.proofs.Forms.{string_of_statement}
+use Rattle.mm_subst.specs.Statements.{statement_of}
+use Rattle.mm_sound.specs.Complete.{has_unknown}
+use Rattle.mm_splice.specs.Agreeing.{CanBeMade}
+use Rattle.mm_save.proofs.Texts.{text_fine}
+use Rattle.mm_splice.specs.Keeping.{KeepsTheRest}
+use Rattle.mm_splice.specs.Splicing.{spliced}
+use Rattle.mm_stack.specs.Accepting.{Accepts}
+use Rattle.mm_stack.specs.Decoding.{proof_of as proof_text}
+use Rattle.mm_save.specs.Saving.{names_pairs, saved, saved_text}
+use Rattle.mm_save.proofs.Agreeing.{Agree, label_same}
+use Rattle.mm_save.proofs.Saves.{accepted_by, apart_without, saved_keeps, saved_agrees}
+use Rattle.mm_command.specs.Meanings as meaning
+use Rattle.mm_command.specs.Meanings.{Meaning}
+use Rattle.mm_shell.specs.Actions.{Origin, Nowhere}
+use Rattle.mm_shell.specs.Answers.{Answer, unless, given, none_of}
+use Rattle.mm_shell.specs.Fitting.{OpensIn, IsSaving, SavesIn, Fits}
+use Rattle.mm_shell.specs.OpenProofs.{ProofState, start_of}
+use Rattle.mm_shell.specs.Saves.{Holds}
+use Rattle.mm_shell.specs.Sound.{IsOpenIn, AreSound, IsSound}
+use Rattle.mm_shell.specs.declared.answer.Saving.{Saving}
+use Rattle.mm_shell.specs.declared.state.State.{State}
+use Rattle.mm_shell.specs.declared.refusal.Refusal.{Refusal}
+use Rattle.mm_shell.specs.declared.refusal.Refusal.TheVariants.{NotUnified, NotBuilt, NotBuiltHere, TooLong}
+use Rattle.mm_shell.proofs.FindLemmas.{IsNamed, found_is, theorem_found, proof_found, own_labels}
+use Rattle.mm_shell.proofs.FitLemmas.{rows_fit, given_fits, done_fits, refused_fits}
+use Rattle.mm_proof_commands.specs.Commands.{prove, save, exit, exit_by, unknown_or_ready, database_with, proof_answer}
+use Rattle.mm_proof_commands.proofs.CompleteLemmas.{complete_by}
+
+-- ## PROVE
+
+start_open : (bytes label : List ℕ) (id : ℕ) → IsNamed bytes label id → IsOpenIn bytes (start_of bytes id)
+start_open bytes label id named = record {
+  own = named.own;
+  theorem = named.theorem;
+  valid = valid-start bytes id (statement_of bytes id) (string_of_statement (first_setting bytes id) id);
+  past = λ k d small. absurd (omega (arith, small));
+  future = λ k d small. absurd (omega (arith, small));
+}
+
+prove_fits : (s : State) (label : List ℕ) (guarded_too : Bool) → Fits Nowhere s (prove s label guarded_too)
+prove_fits s label guarded_too =
+    rows_fit Nowhere s _ _ (given_fits Nowhere s _ _ (λ bytes is. given_fits Nowhere s _ _ (λ id found. rows_fit Nowhere s _ _ (done_fits Nowhere s _
+    (subst (λ (d : Option (List ℕ)). OpensIn d (start_of bytes id)) (sym (found_is s.database _ bytes is)) (start_open bytes label id (theorem_found bytes label id found))) tt tt))))
+
+-- ## SAVE NEW_PROOF
+
+-- a proof that may be saved, by whether some step of it is unknown
+record IsReady (bytes : List ℕ) (p : ProofState) (some_unknown : Bool) : Type 0 where
+  known : some_unknown ≡ false → has_unknown p.proof.plain ≡ false
+  settled : some_unknown ≡ false → pending_in bytes p.proof.plain ≡ []
+  apart : some_unknown ≡ false → names_pairs bytes p.proof.plain ≡ false
+
+no_first : (xs : List ℕ) → slice_get xs 0 ≡ None → xs ≡ []
+no_first [] e = refl
+no_first (x ∷ xs) e = cc
+
+unknown_ready : (bytes : List ℕ) (p : ProofState) (some_unknown : Bool) → true ≡ some_unknown → IsReady bytes p some_unknown
+unknown_ready bytes p some_unknown e = record { known = λ f. absurd (true≢false (e ∙ f)); settled = λ f. absurd (true≢false (e ∙ f)); apart = λ f. absurd (true≢false (e ∙ f)) }
+
+ok_bool : (a b : Bool) → (let r : Result Bool Refusal = Ok a in r) ≡ Ok b → a ≡ b
+ok_bool a b e = cc
+
+is_ready : (bytes : List ℕ) (p : ProofState) (some_unknown : Bool) → unknown_or_ready bytes p ≡ Ok some_unknown → IsReady bytes p some_unknown
+unfolding unless
+is_ready bytes p some_unknown e = at (has_unknown p.proof.plain) refl (slice_get (pending_in bytes p.proof.plain) 0) refl (names_pairs bytes p.proof.plain) refl e where
+  at : (u : Bool) → has_unknown p.proof.plain ≡ u → (o : Option ℕ) → slice_get (pending_in bytes p.proof.plain) 0 ≡ o → (n : Bool) → names_pairs bytes p.proof.plain ≡ n
+      → (let r : Result Bool Refusal = if u then Ok true else none_of o NotUnified (unless ((n, NotBuiltHere) ∷ []) (Ok false)) in r) ≡ Ok some_unknown → IsReady bytes p some_unknown
+  at true is o none n apart e = unknown_ready bytes p some_unknown (ok_bool true some_unknown e)
+  at false is (Some step) none n apart e = cc
+  at false is None none true apart e = cc
+  at false is None none false apart e = record { known = λ f. is; settled = λ f. no_first (pending_in bytes p.proof.plain) none; apart = λ f. apart }
+
+no_more : (n m : ℕ) → nat_lt m n ≡ false → n ≤ m
+no_more n m h = grind arith
+
+-- what is known of the new database
+record IsWith (bytes : List ℕ) (p : ProofState) (new : List ℕ) : Type 0 where
+  is : new ≡ saved bytes p.theorem p.proof.plain
+  room : length (saved bytes p.theorem p.proof.plain) ≤ most_bytes
+
+is_with : (bytes : List ℕ) (p : ProofState) (new : List ℕ) → database_with bytes p ≡ Ok new → IsWith bytes p new
+unfolding unless
+is_with bytes p new e = at (nat_lt most_bytes (length (saved bytes p.theorem p.proof.plain))) refl e where
+  at : (b : Bool) → nat_lt most_bytes (length (saved bytes p.theorem p.proof.plain)) ≡ b → unless ((b, TooLong) ∷ []) (Ok (saved bytes p.theorem p.proof.plain)) ≡ Ok new → IsWith bytes p new
+  at true is e = cc
+  at false is e = record { is = cc; room = no_more _ most_bytes is }
+
+-- a complete proof holds in the database in which it is saved
+complete_holds : (bytes : List ℕ) (p : ProofState) → is_read bytes ≡ true → IsOpenIn bytes p → length (saved bytes p.theorem p.proof.plain) ≤ most_bytes → IsReady bytes p false → Holds (saved bytes p.theorem p.proof.plain) p.theorem
+complete_holds bytes p read h room ready =
+    let at : ℕ = p.theorem in
+    let x : Plain = p.proof.plain in
+    let new : List ℕ = saved bytes at x in
+    let own : HasOwnLabels bytes x = own_labels bytes p h in
+    let accepts : Accepts new (label_at bytes at) = accepted_by bytes at read h.theorem x own room p.proof refl h.own (record {
+      valid = h.valid;
+      complete = complete_by bytes x (ready.known refl) (ready.settled refl);
+      apart = apart_without bytes (distinct_at bytes at) x (ready.apart refl);
+    }) in
+    let agrees : Agree bytes new = saved_agrees bytes at read h.theorem x own room in
+    let found : find_label bytes (label_at bytes at) ≡ Some at = (has_label bytes at h.own).found in
+    let same : accepts.id ≡ at = same_id bytes new (label_at bytes at) accepts.id at agrees.labels accepts.found found in
+    let own_now : at < length (labels_of new) = subst (λ (ls : List (List ℕ)). at < length ls) (sym agrees.labels) h.own in
+    subst (Holds new) same (record { own = subst (λ (k : ℕ). k < length (labels_of new)) (sym same) own_now; kind = accepts.theorem; normal = accepts.normal; accepted = accepts.accepted })
+  where
+    same_id : (old new label : List ℕ) (i j : ℕ) → labels_of new ≡ labels_of old → find_label new label ≡ Some i → find_label old label ≡ Some j → i ≡ j
+    same_id old new label i j same e f = let g : (let o : Option ℕ = Some i in o) ≡ Some j = sym e ∙ ap (λ (ls : List (List ℕ)). position (bytes_eq label) ls) same ∙ f in cc
+
+is_saving : (bytes : List ℕ) (p : ProofState) (some_unknown : Bool) (new : List ℕ) → is_read bytes ≡ true → IsOpenIn bytes p → IsReady bytes p some_unknown → IsWith bytes p new
+    → IsSaving bytes (record { database = new; theorem = record { 0 = p.theorem }; complete = not some_unknown })
+is_saving bytes p some_unknown new read h ready w =
+    subst (λ (b : List ℕ). IsSaving bytes (record { database = b; theorem = record { 0 = p.theorem }; complete = not some_unknown })) (sym w.is) (
+    let at : ℕ = p.theorem in
+    let x : Plain = p.proof.plain in
+    let keeps : KeepsTheRest bytes at (saved_text bytes x) = saved_keeps bytes at read h.theorem x (own_labels bytes p h) w.room in
+    record {
+      is = ap (spliced bytes at) (sym keeps.proof_is);
+      keeps = subst (KeepsTheRest bytes at) (sym keeps.proof_is) keeps;
+      made = subst (λ (t : List ℕ). CanBeMade bytes bytes (record { theorem = at; text = t })) (sym keeps.proof_is) (record { theorem = h.theorem; text = text_fine bytes x (own_labels bytes p h); room = w.room });
+      accepted = λ complete. complete_holds bytes p read h w.room (subst (IsReady bytes p) (known_by some_unknown complete) ready);
+    })
+  where
+    known_by : (b : Bool) → not b ≡ true → b ≡ false
+    known_by true e = absurd (true≢false (sym e))
+    known_by false e = refl
+
+save_fits : (s : State) (normal compressed guarded_too : Bool) → IsSound s → Fits Nowhere s (save s normal compressed guarded_too)
+save_fits s normal compressed guarded_too sound =
+    rows_fit Nowhere s _ _ (given_fits Nowhere s _ _ (λ here found. rows_fit Nowhere s _ _ (given_fits Nowhere s _ _ (λ some_unknown ready. given_fits Nowhere s _ _ (λ new is. done_fits Nowhere s _ (
+    let k : (s.database ≡ Some here.0) × (s.open_proof ≡ Some here.1) = proof_found s.database s.open_proof here found in
+    let h : AreSound (Some here.0) (Some here.1) = subst (λ (d : Option (List ℕ)). AreSound d (Some here.1)) k.0 (subst (λ (o : Option ProofState). AreSound s.database o) k.1 sound) in
+    subst (λ (d : Option (List ℕ)). SavesIn d (record { database = new; theorem = record { 0 = here.1.theorem }; complete = not some_unknown })) (sym k.0)
+    (is_saving here.0 here.1 some_unknown new h.0 h.1 (is_ready here.0 here.1 some_unknown ready) (is_with here.0 here.1 new is))) tt tt)))))
+
+-- ## EXIT
+
+exit_fits : (s : State) (force : Bool) (p : Option ProofState) → Fits Nowhere s (exit_by s force p)
+exit_fits s force (Some p) = rows_fit Nowhere s _ _ (done_fits Nowhere s _ tt tt tt)
+exit_fits s force None = rows_fit Nowhere s _ _ (done_fits Nowhere s _ tt refl tt)
+
+pub proof_fits : (m : Meaning) (s : State) → IsSound s → Fits Nowhere s (proof_answer m s)
+unfolding proof_answer
+proof_fits meaning.Nothing s sound = done_fits Nowhere s _ tt tt tt
+proof_fits (meaning.Prove label guarded_too) s sound = prove_fits s label guarded_too
+proof_fits (meaning.Save normal compressed guarded_too) s sound = save_fits s normal compressed guarded_too sound
+proof_fits (meaning.Exit force) s sound = exit_fits s force s.open_proof
+proof_fits _ s sound = refused_fits Nowhere s NotBuilt

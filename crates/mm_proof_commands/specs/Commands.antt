@@ -1,0 +1,79 @@
+-- What each command on the open proof or on the session means: its refusals in order, and then what it does.
+use Rattle.std.specs.Prelude.{◌&&◌, ◌||◌, not, nat_lt, length, is_some, ℕ, Bool, true, false, List, [], ◌∷◌, Option, Some, None, Result, Ok, Err, if◌then◌else◌, slice_get}
+use Rattle.mm_plain.specs.Numbers.{pending_in}
+use Rattle.mm_plain.specs.Shape.{size_of}
+use Rattle.mm_plain.specs.Labels.{label_at}
+use Rattle.mm_sound.specs.Complete.{has_unknown}
+use Rattle.mm_save.specs.Saving.{names_pairs, saved}
+use Rattle.mm_scope.specs.Judged.{most_bytes}
+use Rattle.mm_command.specs.Meanings as meaning
+use Rattle.mm_command.specs.Meanings.{Meaning}
+use Rattle.mm_shell.specs.Answers.{Answer, unless, given, none_of, does, reports, changes}
+use Rattle.mm_shell.specs.Finding.{database_of, theorem_named, proof_of, is_closed}
+use Rattle.mm_shell.specs.OpenProofs.{ProofState, start_of}
+use Rattle.mm_shell.specs.declared.state.State.{State}
+use Rattle.mm_shell.specs.declared.answer.Change.TheVariants.{Opens, Saves, Leaves, Ends}
+use Rattle.mm_shell.specs.declared.refusal.Refusal.{Refusal}
+use Rattle.mm_shell.specs.declared.refusal.Refusal.TheVariants.{Guarded, ProofOpen, TooLong, NotUnified, ProofNotSaved, NotWritten, NotBuilt, NotBuiltHere}
+use Rattle.mm_shell.specs.declared.report.Report.TheVariants.{Nothing, Counts, Saved}
+use Rattle.mm_proof_commands.specs.Unproved.{is_unproved}
+
+-- ## PROVE
+
+abbrev pub prove : State → List ℕ → Bool → Answer
+prove s label guarded_too =
+    unless ((is_some s.open_proof, ProofOpen) ∷ [])
+    (given (database_of s) (λ bytes.
+    given (theorem_named bytes label) (λ id.
+    unless (
+    (is_closed guarded_too bytes id, Guarded label)
+    ∷ (not (is_unproved bytes id), NotBuilt)
+    ∷ [])
+    (does (Counts 1 1 0) (Opens (start_of bytes id))))))
+
+-- ## SAVE NEW_PROOF
+
+-- Whether some step is unknown. Where none is, none may be pending, and none may name a statement with mandatory pairs.
+abbrev pub unknown_or_ready : List ℕ → ProofState → Result Bool Refusal
+unknown_or_ready bytes p =
+    if has_unknown p.proof.plain then Ok true
+    else none_of (slice_get (pending_in bytes p.proof.plain) 0) NotUnified
+    (unless ((names_pairs bytes p.proof.plain, NotBuiltHere) ∷ []) (Ok false))
+
+-- the database with the proof
+abbrev pub database_with : List ℕ → ProofState → Result (List ℕ) Refusal
+database_with bytes p =
+    unless ((nat_lt most_bytes (length (saved bytes p.theorem p.proof.plain)), TooLong) ∷ [])
+    (Ok (saved bytes p.theorem p.proof.plain))
+
+abbrev pub save_proof : List ℕ → ProofState → Bool → Answer
+save_proof bytes p guarded_too =
+    unless ((is_closed guarded_too bytes p.theorem, Guarded (label_at bytes p.theorem)) ∷ [])
+    (given (unknown_or_ready bytes p) (λ some_unknown.
+    given (database_with bytes p) (λ new.
+    does (Saved (label_at bytes p.theorem) some_unknown (size_of p.proof.plain))
+    (Saves (record { database = new; theorem = record { 0 = p.theorem }; complete = not some_unknown })))))
+
+abbrev pub save : State → Bool → Bool → Bool → Answer
+save s normal compressed guarded_too =
+    unless ((normal || compressed, NotBuilt) ∷ [])
+    (given (proof_of s) (λ here. save_proof here.0 here.1 guarded_too))
+
+-- ## EXIT
+
+-- with an open proof, or without one
+abbrev pub exit_by : State → Bool → Option ProofState → Answer
+exit_by s force (Some p) = unless ((p.changed && not force, ProofNotSaved) ∷ []) (changes Leaves)
+exit_by s force None = unless ((s.unwritten && not force, NotWritten) ∷ []) (changes Ends)
+
+abbrev pub exit : State → Bool → Answer
+exit s force = exit_by s force s.open_proof
+
+-- ## All of them
+
+unfoldable pub proof_answer : Meaning → State → Answer
+proof_answer meaning.Nothing s = reports Nothing
+proof_answer (meaning.Prove label guarded_too) s = prove s label guarded_too
+proof_answer (meaning.Save normal compressed guarded_too) s = save s normal compressed guarded_too
+proof_answer (meaning.Exit force) s = exit s force
+proof_answer _ s = Err NotBuilt

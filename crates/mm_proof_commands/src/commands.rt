@@ -1,0 +1,38 @@
+ghost use Rattle.std.specs.Prelude.{◌≡◌};
+ghost use Rattle.mm_command.specs.Meanings.{meaning_of};
+ghost use Rattle.mm_shell.specs.Answers.{Answers};
+ghost use Rattle.mm_shell.specs.Sound.{IsSound};
+ghost use Rattle.mm_proof_commands.specs.Commands.{proof_answer};
+
+use crate::exit::exit;
+use crate::prove::prove;
+use crate::save::save;
+use mm_command::Command;
+use mm_shell::{Change, Done, Refusal, Report, State};
+use std::alloc::Global;
+
+/// The answer to a command on the open proof or on the session: one arm for each. It changes nothing.
+#[tactic(auto, unfolding(crate::specs::Commands::proof_answer))]
+pub fn answer<'a>(
+    alloc: Global,
+    state: &'a State,
+    command: Command<'a>,
+) -> Result<Done<'a>, Refusal<'a>>
+    requires { IsSound state.now }
+    ensures { Answers (proof_answer (meaning_of command.entry) state.now) result }
+{
+    match command {
+        Command::Nothing => Ok(Done {
+            report: Report::Nothing,
+            change: Change::Stays,
+        }),
+        Command::Prove { label, guarded_too } => prove(alloc, state, label, guarded_too),
+        Command::Save {
+            normal,
+            compressed,
+            guarded_too,
+        } => save(alloc, state, normal, compressed, guarded_too),
+        Command::Exit { force } => exit(state, force),
+        _ => Err(Refusal::NotBuilt),
+    }
+}

@@ -1,0 +1,12 @@
+pub mod OpenProofs
+pub mod Lending
+pub mod Answers
+pub mod Actions
+pub mod Changes
+pub mod Saves
+pub mod Sound
+pub mod Finding
+pub mod Fitting
+pub mod Lines
+pub mod Texts
+pub mod Verdicts

@@ -1,0 +1,86 @@
+-- The texts of reports and refusals. Each line ends with LF.
+use Rattle.std.specs.Prelude.{ℕ, Bool, true, false, ◌==◌, if◌then◌else◌, List, [], ◌∷◌, ◌++◌, codes, Ok, Err}
+use Rattle.std.specs.Fmt.{decimal}
+use Rattle.mm_command.specs.declared.fault.LineFault.{LineFault}
+use Rattle.mm_scope.specs.Faults.{number_of, place_of}
+use Rattle.mm_scope.specs.declared.fault.ReadFault.{ReadFault}
+use Rattle.mm_shell.specs.Answers.{Answer}
+use Rattle.mm_shell.specs.Lines.{line_of, numbered}
+use Rattle.mm_shell.specs.Verdicts.{verdict_text}
+use Rattle.mm_shell.specs.declared.refusal.Refusal.{Refusal}
+use Rattle.mm_shell.specs.declared.refusal.Refusal.TheVariants.{WrongWord, LineTooLong, NoDatabase, AlreadyRead, NoFile, BadDatabase, NoStatement, NotTheorem, Guarded, ProofOpen, NoProofOpen, TooManySteps, TooDeep, NoStep, NotEarlier, NotActive, NoMatch, TooLong, NotUnified, ProofNotSaved, NotWritten, FileFault, OutOfMemory, NotBuilt, NotBuiltHere, NeedsWork}
+use Rattle.mm_shell.specs.declared.report.Report.{Report}
+use Rattle.mm_shell.specs.declared.report.Report.TheVariants.{Nothing, Loaded, Verified, Wrote, Counts, Saved}
+
+-- ## Refusals
+
+-- with the number of the word
+unfoldable pub wrong_word_text : LineFault → List ℕ
+wrong_word_text fault =
+    if fault.number == 1 then numbered 1 (codes "no keyword for word " ++ (decimal fault.word ++ line_of []))
+    else if fault.number == 2 then numbered 2 (codes "word " ++ (decimal fault.word ++ line_of (codes " is ambiguous")))
+    else numbered 3 (codes "word " ++ (decimal fault.word ++ line_of (codes " is wrong")))
+
+-- with the number of the fault, and its place in bytes, counted from 0
+unfoldable pub bad_database_text : ReadFault → List ℕ
+bad_database_text fault = numbered 8 (codes "database fault " ++ (decimal (number_of fault) ++ (codes " at byte " ++ (decimal (place_of fault) ++ 10 ∷ []))))
+
+abbrev pub refusal_text : Refusal → List ℕ
+refusal_text (WrongWord fault) = wrong_word_text fault
+refusal_text LineTooLong = numbered 4 (line_of (codes "line too long"))
+refusal_text NoDatabase = numbered 5 (line_of (codes "no database"))
+refusal_text AlreadyRead = numbered 6 (line_of (codes "a database is already read"))
+refusal_text (NoFile name) = numbered 7 (codes "no file " ++ line_of name)
+refusal_text (BadDatabase fault) = bad_database_text fault
+refusal_text (NoStatement label) = numbered 9 (codes "no statement " ++ line_of label)
+refusal_text (NotTheorem label) = numbered 10 (label ++ line_of (codes " is not a theorem"))
+refusal_text (Guarded label) = numbered 11 (label ++ line_of (codes " is guarded"))
+refusal_text ProofOpen = numbered 12 (line_of (codes "a proof is in hand"))
+refusal_text NoProofOpen = numbered 13 (line_of (codes "no proof is in hand"))
+refusal_text TooManySteps = numbered 15 (line_of (codes "more than 1000000 steps"))
+refusal_text TooDeep = numbered 16 (line_of (codes "higher than 2000 steps"))
+refusal_text NoStep = numbered 17 (line_of (codes "no such step"))
+refusal_text (NotEarlier label) = numbered 20 (label ++ line_of (codes " is not earlier"))
+refusal_text (NotActive label) = numbered 21 (codes "hypothesis " ++ (label ++ line_of (codes " is not active")))
+refusal_text (NoMatch step) = numbered 22 (codes "step " ++ (decimal step ++ line_of (codes " has no unifier")))
+refusal_text TooLong = numbered 23 (line_of (codes "limit: length"))
+refusal_text (NotUnified step) = numbered 32 (codes "step " ++ (decimal step ++ line_of (codes " is not unified")))
+refusal_text ProofNotSaved = numbered 36 (line_of (codes "the proof is not saved"))
+refusal_text NotWritten = numbered 37 (line_of (codes "the database is not written"))
+refusal_text FileFault = numbered 40 (line_of (codes "file fault"))
+refusal_text OutOfMemory = numbered 42 (line_of (codes "out of memory"))
+refusal_text NotBuilt = numbered 60 (line_of (codes "not built yet"))
+refusal_text NotBuiltHere = numbered 60 (line_of (codes "not built yet"))
+refusal_text (NeedsWork label) = numbered 62 (codes "label " ++ (label ++ line_of (codes " needs work variables")))
+
+-- ## Reports
+
+unfoldable pub loaded_text : ℕ → ℕ → ℕ → List ℕ
+loaded_text labelled axioms theorems = codes "Read: labelled " ++ (decimal labelled ++ (codes ", axioms " ++ (decimal axioms ++ (codes ", theorems " ++ (decimal theorems ++ (codes "." ++ 10 ∷ []))))))
+
+unfoldable pub wrote_text : List ℕ → List ℕ
+wrote_text name = codes "Wrote " ++ (name ++ line_of (codes "."))
+
+unfoldable pub counts_text : ℕ → ℕ → ℕ → List ℕ
+counts_text steps unknown pending =
+    codes "Steps " ++ (decimal steps ++ (codes ", unknown " ++ (decimal unknown ++ (codes ", pending " ++ (decimal pending ++ (codes "." ++ 10 ∷ []))))))
+
+-- by whether some step is unknown
+abbrev pub state_word : Bool → List ℕ
+state_word true = codes ": incomplete, "
+state_word false = codes ": complete, "
+
+unfoldable pub saved_text : List ℕ → Bool → ℕ → List ℕ
+saved_text label some_unknown steps = codes "Saved " ++ (label ++ (state_word some_unknown ++ (decimal steps ++ (codes " steps." ++ 10 ∷ []))))
+
+abbrev pub report_text : Report → List ℕ
+report_text Nothing = []
+report_text (Loaded labelled axioms theorems) = loaded_text labelled axioms theorems
+report_text (Verified bytes label verdict) = verdict_text bytes label verdict
+report_text (Wrote name) = wrote_text name
+report_text (Counts steps unknown pending) = counts_text steps unknown pending
+report_text (Saved label some_unknown steps) = saved_text label some_unknown steps
+
+abbrev pub text_of : Answer → List ℕ
+text_of (Ok done) = report_text done.report
+text_of (Err refusal) = refusal_text refusal

@@ -1,0 +1,18 @@
+use crate::word::{DatabaseRef, Word};
+use mm_stack::Verdict;
+
+/// What a command that isn't refused reports.
+#[derive(Drop)]
+pub enum Report<'a> {
+    Nothing,
+    /// A database was read: how many labelled statements, axioms and theorems it has.
+    Loaded(u32, u32, u32),
+    /// What became of the proof of the database's theorem with this label.
+    Verified(DatabaseRef<'a>, Word<'a>, Verdict),
+    /// The database was written into the file of this name.
+    Wrote(Word<'a>),
+    /// How many steps the open proof has, and how many of them are unknown and pending.
+    Counts(u32, u32, u32),
+    /// The proof of the theorem with this label was saved: whether some step is unknown, and how many steps there are.
+    Saved(Word<'a>, bool, u32),
+}

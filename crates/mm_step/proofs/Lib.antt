@@ -1,0 +1,5 @@
+pub mod AskedLemmas
+pub mod NameLemmas
+pub mod ReplyLemmas
+pub mod RunLemmas
+pub mod LawLemmas
