@@ -1,5 +1,5 @@
 -- What a substitution makes of a tree.
-use Rattle.std.proofs.Common.{zero, suc, ◌≡◌, ℕ, ◌+◌, ◌-◌, ◌≤◌, Bool, true, false, List, [], ◌∷◌, ◌++◌, map, length, get_or, nat_le, if◌then◌else◌, refl, sym, ◌∙◌, ap, arith}
+use Rattle.std.proofs.Common.{zero, suc, ◌≡◌, ℕ, ◌+◌, ◌-◌, Bool, true, false, List, [], ◌∷◌, ◌++◌, map, length, get_or, nat_le, if◌then◌else◌, refl, sym, ◌∙◌, ap, arith}
 use Rattle.std.specs.List.{flat_map, sum_by}
 use Rattle.std.proofs.lemmas.List.Concat.{flat_map-cons}
 use Rattle.std.proofs.lemmas.List.Sums.{sum_by-cons}
@@ -14,7 +14,7 @@ use Rattle.mm_plain.specs.Shape.{Each, known, unknown, size_of, height_of, great
 use Rattle.mm_plain.specs.Sources.{label_of, sigma_of}
 use Rattle.mm_plain.specs.Numbers.{labels_in, unknowns_among, last_unknown_of}
 use Rattle.mm_plain.specs.Binding.{bound, bound_step}
-use Rattle.mm_plain.proofs.Equations.{by_trees, size_of-unknown, size_of-known, height_of-unknown, height_of-known, depths_of-unknown, depths_of-known, steps_of-unknown, steps_of-known, length-steps_of, put-unknown, put-known, target_of-unknown, target_of-known}
+use Rattle.mm_plain.proofs.Equations.{by_trees, height_of-unknown, height_of-known, depths_of-unknown, depths_of-known, steps_of-unknown, steps_of-known, length-steps_of, put-unknown, put-known, target_of-unknown, target_of-known}
 use Rattle.mm_plain.proofs.Read.{label_of-unknown, label_of-known, sigma_of-unknown, sigma_of-known}
 
 pub bound-unknown : (theta : Pairs) (t : List WSym) → bound theta (unknown t) ≡ unknown (applied theta t)

@@ -1,5 +1,5 @@
 -- A valid proof under a substitution is valid, where no string gets too long.
-use Rattle.std.proofs.Common.{zero, suc, ◌≡◌, ℕ, ◌+◌, ◌-◌, ◌≤◌, ◌<◌, Bool, true, false, ◌||◌, List, [], ◌∷◌, ◌++◌, map, length, get_or, nat_lt, Option, None, Some, if◌then◌else◌, refl, sym, ◌∙◌, ap, subst, arith}
+use Rattle.std.proofs.Common.{◌≡◌, ℕ, Bool, true, false, ◌||◌, List, [], ◌∷◌, map, length, get_or, Option, None, Some, if◌then◌else◌, refl, sym, ◌∙◌, ap, subst, arith}
 use Rattle.std.proofs.lemmas.Bool.{ltb-false}
 use Rattle.mm_scope.specs.Contents.{stated_at}
 use Rattle.mm_stated.specs.Stated.{is_hypothesis}
@@ -7,7 +7,6 @@ use Rattle.std.proofs.lemmas.List.Elements.{recursion_from_All, All-from_recursi
 use Rattle.std.specs.List.{All, AllByRecursion as ByRecursion, list_any}
 use Rattle.std.specs.Option.{option_map}
 use Rattle.mm_subst.specs.declared.symbol.WSym.{WSym}
-use Rattle.mm_subst.specs.declared.symbol.WSym.TheVariants.{Var}
 use Rattle.mm_subst.specs.Applied.{most_symbols}
 use Rattle.mm_subst.specs.Symbols.{is_same}
 use Rattle.mm_subst.specs.Statements.{statement_of}
@@ -15,15 +14,15 @@ use Rattle.mm_subst.specs.Substitutions.{Pairs, value_at, or_itself, value_of, a
 use Rattle.mm_subst.proofs.Replaced.{All-applied}
 use Rattle.mm_subst.proofs.Keys.{keys-with_values}
 use Rattle.mm_plain.specs.declared.plain.Plain.{Plain}
-use Rattle.mm_plain.specs.Premises.{premises_of, variables_for}
-use Rattle.mm_plain.specs.Shape.{Each, Proof, known, unknown, steps_of, target_of, size_of, height_of}
+use Rattle.mm_plain.specs.Premises.{premises_of}
+use Rattle.mm_plain.specs.Shape.{Each, Proof, known, unknown, steps_of, target_of}
 use Rattle.mm_plain.specs.Sources.{source_of, sigma_of}
 use Rattle.mm_plain.proofs.First.{first_from-none}
-use Rattle.mm_plain.specs.Valid.{Setting, setting_of, IsKnownSymbol, IsString, Names, IsInstance, IsGood, IsSound, IsValid, HasKeys}
+use Rattle.mm_plain.specs.Valid.{Setting, setting_of, IsKnownSymbol, IsString, IsInstance, IsGood, IsSound, IsValid}
 use Rattle.mm_plain.specs.Binding.{bound, bound_in, HasWorkKeys, IsBinding}
 use Rattle.mm_plain.specs.Lengths.{is_long, is_long_source, is_long_step, first_long}
 use Rattle.mm_plain.proofs.Equations.{by_trees, target_of-unknown, target_of-known}
-use Rattle.mm_plain.proofs.Read.{source_of-unknown, source_of-known, sigma_of-known}
+use Rattle.mm_plain.proofs.Read.{source_of-known, sigma_of-known}
 use Rattle.mm_plain.proofs.Kept.{good-unknown, unknown-good, good-known, known-good}
 use Rattle.mm_plain.proofs.Binding.{bound-unknown, bound-known, map-map, map-same, target_of-bound, sigma_of-bound, steps_of-bound, size_of-bound, height_of-bound}
 use Rattle.mm_plain.proofs.Works.{neither, source_of-bound, statement-with_values}

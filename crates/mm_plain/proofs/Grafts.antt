@@ -1,10 +1,10 @@
 -- Proofs stay valid where a step is made unknown, where a tree stands in its place, and where work variables are drawn.
-use Rattle.std.proofs.Common.{◌≡◌, ℕ, ◌+◌, ◌≤◌, List, refl, sym, ◌∙◌, ap, arith}
+use Rattle.std.proofs.Common.{ℕ, ◌+◌, ◌≤◌, List, refl, ◌∙◌, arith}
 use Rattle.mm_subst.specs.declared.symbol.WSym.{WSym}
 use Rattle.mm_plain.specs.declared.plain.Plain.{Plain}
-use Rattle.mm_plain.specs.Shape.{Proof, unknown, size_of, height_of, depth_at, step_at, steps_of, target_of, put}
+use Rattle.mm_plain.specs.Shape.{Proof, unknown, size_of, height_of, step_at, target_of}
 use Rattle.mm_plain.specs.Valid.{Setting, setting_of, IsGood, IsSound, IsValid, most_steps, most_levels, most_works}
-use Rattle.mm_plain.specs.Grafts.{cleared, cleared_in, part_at, grafted_in, raised, HasWorksBelow}
+use Rattle.mm_plain.specs.Grafts.{cleared_in, part_at, grafted_in, raised, HasWorksBelow}
 use Rattle.mm_plain.proofs.Equations.{target_of-unknown}
 use Rattle.mm_plain.proofs.Kept.{put-kept, step-good, target-good, sound-unknown}
 use Rattle.mm_plain.proofs.Parts.{each-part, size-part, height-part, size-cleared-le, height-cleared-le}

@@ -21,3 +21,5 @@ pub mod Bounds
 pub mod Parts
 pub mod Moved
 pub mod Grafts
+pub mod Fresh
+pub mod Drawing

@@ -1,12 +1,12 @@
 -- Steps that are good where one number of work variables is drawn, and so where another is.
-use Rattle.std.proofs.Common.{◌≡◌, ℕ, ◌+◌, ◌≤◌, ◌<◌, List, [], ◌∷◌, map, length, get_or, refl, sym, ◌∙◌, ap, subst, arith}
+use Rattle.std.proofs.Common.{◌≡◌, ℕ, ◌≤◌, ◌<◌, List, [], ◌∷◌, map, length, get_or, sym, ap, subst, arith}
 use Rattle.std.specs.List.{All}
 use Rattle.mm_subst.specs.declared.symbol.WSym.{WSym}
 use Rattle.mm_subst.specs.declared.symbol.WSym.TheVariants.{Const, Var, Work}
 use Rattle.mm_subst.specs.Statements.{statement_of}
-use Rattle.mm_subst.specs.Substitutions.{Pairs, applied}
+use Rattle.mm_subst.specs.Substitutions.{Pairs}
 use Rattle.mm_plain.specs.declared.plain.Plain.{Plain}
-use Rattle.mm_plain.specs.Shape.{Each, known, unknown, steps_of, target_of}
+use Rattle.mm_plain.specs.Shape.{Each, unknown, steps_of, target_of}
 use Rattle.mm_plain.specs.Sources.{sigma_of}
 use Rattle.mm_plain.specs.Valid.{Setting, IsKnownSymbol, IsString, IsInstance, IsGood, IsSound}
 use Rattle.mm_plain.specs.Grafts.{IsBelow, IsStepBelow, HasWorksBelow}

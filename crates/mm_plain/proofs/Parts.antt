@@ -1,5 +1,5 @@
 -- The subtree at a step: its steps, its size and its height.
-use Rattle.std.proofs.Common.{zero, suc, ◌≡◌, ℕ, ◌+◌, ◌-◌, ◌≤◌, ◌<◌, max, List, [], ◌∷◌, ◌++◌, map, length, get_or, set, refl, sym, ◌∙◌, ap, subst, inl, inr, arith}
+use Rattle.std.proofs.Common.{zero, suc, ◌≡◌, ℕ, ◌+◌, ◌≤◌, ◌<◌, max, List, [], ◌∷◌, map, length, get_or, set, refl, sym, ap, subst, inl, inr, arith}
 use Rattle.std.specs.List.{flat_map, sum_by}
 use Rattle.std.proofs.lemmas.Bool.{cases_lt}
 use Rattle.std.proofs.lemmas.List.Concat.{flat_map-cons}
@@ -9,7 +9,7 @@ use Rattle.mm_plain.specs.declared.plain.Plain.{Plain}
 use Rattle.mm_plain.specs.Shape.{Each, unknown, known, size_of, height_of, greatest, depth_at, steps_of, step_at, target_of, put, put_kids, seat}
 use Rattle.mm_plain.specs.Grafts.{cleared}
 use Rattle.mm_plain.proofs.Equations.{by_trees, size_of-unknown, size_of-known, size_of-pos, height_of-unknown, height_of-known, steps_of-known, put-unknown}
-use Rattle.mm_plain.proofs.Trees.{IsSeat, seat-in, at-kid, at-root, at-leaf, put-in, put-root}
+use Rattle.mm_plain.proofs.Trees.{seat-in, at-kid, at-root, at-leaf, put-in, put-root}
 use Rattle.mm_plain.proofs.Depths.{depth-kid}
 use Rattle.mm_plain.proofs.Sizes.{size-put, height-put, height_of-pos, depth-leaf, depth-root}
 use Rattle.mm_plain.proofs.Walks.{each-at, each-append}

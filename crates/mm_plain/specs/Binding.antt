@@ -1,5 +1,5 @@
 -- Trees under a substitution for work variables.
-use Rattle.std.specs.Prelude.{◌≡◌, Bool, true, ◌||◌, List, All}
+use Rattle.std.specs.Prelude.{◌≡◌, Bool, true, ◌||◌, All}
 use Rattle.std.specs.List.{list_any}
 use Rattle.mm_subst.specs.Substitutions.{Pairs, applied, with_values}
 use Rattle.mm_subst.specs.Symbols.{is_work, has_work}

@@ -1,5 +1,5 @@
 -- Proofs in which a step is made unknown, or a tree stands in the place of a step; the proof of a step; more work variables.
-use Rattle.std.specs.Prelude.{ℕ, ◌+◌, ◌<◌, List, All}
+use Rattle.std.specs.Prelude.{ℕ, ◌+◌, ◌<◌, All}
 use Rattle.mm_subst.specs.declared.symbol.WSym.{WSym}
 use Rattle.mm_subst.specs.declared.symbol.WSym.TheVariants.{Const, Var, Work}
 use Rattle.mm_plain.specs.declared.plain.Plain.{Plain}

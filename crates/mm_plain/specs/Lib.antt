@@ -8,3 +8,4 @@ pub mod Labels
 pub mod Binding
 pub mod Lengths
 pub mod Grafts
+pub mod Drawing

@@ -1,16 +1,17 @@
 //! What holds of plain proofs.
 
-ghost use Rattle.std.specs.Prelude.{◌≡◌, ◌+◌, ◌<◌, ◌≤◌, max, ℕ, false, List, None, map, length};
+ghost use Rattle.std.specs.Prelude.{◌≡◌, ◌+◌, ◌<◌, ◌≤◌, max, ℕ, false, true, List, None, map, length};
 ghost use Rattle.std.specs.Option.{option_map};
 ghost use Rattle.mm_scope.specs.Contents.{labels_of};
 ghost use Rattle.mm_plain.specs.Binding.{HasWorkKeys, IsBinding, bound, bound_in, has_works};
+ghost use Rattle.mm_plain.specs.Drawing.{draws_of, fresh_for, with_fresh, with_fresh_in};
 ghost use Rattle.mm_plain.specs.Grafts.{HasWorksBelow, cleared, cleared_in, grafted_in, part_at, raised};
 ghost use Rattle.mm_plain.specs.Lengths.{first_long};
 ghost use Rattle.mm_plain.specs.Numbers.{HasOwnLabels, labels_in};
 ghost use Rattle.mm_plain.specs.Shape.{Proof, depth_at, depths_of, placed, put, size_of, height_of, step_at, steps_of, target_of};
 ghost use Rattle.mm_plain.specs.Sources.{source_of};
-ghost use Rattle.mm_plain.specs.Premises.{premises_of};
-ghost use Rattle.mm_plain.specs.Valid.{Fits, IsValid, most_levels, most_steps, most_works, placed_in, setting_of};
+ghost use Rattle.mm_plain.specs.Premises.{may_stand, premises_of, variables_for};
+ghost use Rattle.mm_plain.specs.Valid.{Fits, Setting, IsValid, most_levels, most_steps, most_works, placed_in, setting_of};
 ghost use Rattle.mm_subst.specs.Substitutions.{Pairs, applied, then_by};
 ghost use Rattle.mm_subst.specs.declared.symbol.WSym.{WSym};
 ghost use Rattle.mm_plain.specs.declared.plain.Plain.{Plain};
@@ -82,3 +83,14 @@ pub fn heights_add_up()
     ensures cleared { (x : Plain) (k : ℕ) → 1 ≤ k → k ≤ size_of x → height_of (cleared x k) ≤ height_of x }
     ensures grafted { (new x : Plain) (k : ℕ) → 1 ≤ k → k ≤ size_of x → size_of (step_at x k) ≡ 1 → height_of (put x k new) ≡ max (height_of x) (depth_at x k + height_of new) }
 {}
+
+/// A statement that may stand in a proof fits with fresh work variables for its variables, where so many may be drawn. So
+/// does each step of a part: a valid proof stays valid where the part at a step has fresh work variables throughout. The
+/// part keeps its labels.
+pub fn fresh_work_variables_fit(bytes: &[u8])
+    ensures step { (c : Setting) (n id : ℕ) → may_stand c.bytes c.at id ≡ true → 1 ≤ n → n + length (variables_for c.bytes id) ≤ c.next → Fits c id (fresh_for c.bytes n id) }
+    ensures part { (at k : ℕ) (goal : List WSym) (p : Proof) → IsValid bytes.now at goal p → 1 ≤ k → k ≤ size_of p.plain → p.next + draws_of bytes.now (step_at p.plain k) ≤ most_works + 1 → IsValid bytes.now at goal (with_fresh_in bytes.now p k) }
+    ensures labels { (x : Plain) (n : ℕ) (t : List WSym) → labels_in (with_fresh bytes.now x n t) ≡ labels_in x }
+{
+    let _ = bytes;
+}

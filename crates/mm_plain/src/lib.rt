@@ -8,8 +8,8 @@ mod plain;
 mod statements;
 
 pub use laws::{
-    heights_add_up, sizes_add_up, substitutions_keep_the_shape, valid_proofs_have_valid_parts,
-    valid_proofs_name_own_statements, valid_proofs_stay_valid,
+    fresh_work_variables_fit, heights_add_up, sizes_add_up, substitutions_keep_the_shape,
+    valid_proofs_have_valid_parts, valid_proofs_name_own_statements, valid_proofs_stay_valid,
     valid_proofs_stay_valid_under_substitutions, work_variables_alone_change,
 };
 pub use plain::Plain;
