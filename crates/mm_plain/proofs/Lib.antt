@@ -24,3 +24,5 @@ pub mod Grafts
 pub mod Fresh
 pub mod Drawing
 pub mod LabelTrees
+pub mod Nested
+pub mod Children

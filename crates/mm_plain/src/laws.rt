@@ -1,6 +1,6 @@
 //! What holds of plain proofs.
 
-ghost use Rattle.std.specs.Prelude.{◌≡◌, ◌+◌, ◌<◌, ◌≤◌, max, ℕ, false, true, All, List, Option, None, Some, map, length};
+ghost use Rattle.std.specs.Prelude.{◌≡◌, ◌+◌, ◌-◌, ◌<◌, ◌≤◌, ◌++◌, max, ℕ, false, true, All, List, Option, None, Some, drop, get_or, length, map, take};
 ghost use Rattle.std.specs.List.{sum_by};
 ghost use Rattle.std.specs.Option.{option_map};
 ghost use Rattle.mm_scope.specs.Contents.{labels_of};
@@ -9,8 +9,8 @@ ghost use Rattle.mm_plain.specs.Drawing.{AreFitting, draws_by, draws_of, fresh_f
 ghost use Rattle.mm_plain.specs.Grafts.{HasWorksBelow, cleared, cleared_in, grafted_in, part_at, raised};
 ghost use Rattle.mm_plain.specs.LabelTrees.{MayStand, fresh_by, fresh_proof, fresh_proof_of, tree_of};
 ghost use Rattle.mm_plain.specs.Lengths.{first_long};
-ghost use Rattle.mm_plain.specs.Numbers.{HasOwnLabels, labels_in};
-ghost use Rattle.mm_plain.specs.Shape.{Proof, depth_at, depths_of, placed, put, size_of, height_of, step_at, steps_of, target_of};
+ghost use Rattle.mm_plain.specs.Numbers.{HasOwnLabels, labels_in, number_in, number_of_child};
+ghost use Rattle.mm_plain.specs.Shape.{Proof, depth_at, depths_of, known, placed, put, size_of, height_of, step_at, steps_of, target_of};
 ghost use Rattle.mm_plain.specs.Sources.{sigma_of, source_of};
 ghost use Rattle.mm_plain.specs.Premises.{may_stand, premises_of, variables_for};
 ghost use Rattle.mm_plain.specs.Valid.{Fits, IsString, IsValid, Setting, first_setting, most_levels, most_steps, most_works, placed_in, setting_of};
@@ -112,3 +112,17 @@ pub fn labels_begin_valid_proofs(bytes: &[u8])
 {
     let _ = bytes;
 }
+
+/// Step j of the part at a step is a step of the whole, j numbers after where the part begins. It may be replaced in either,
+/// and its depth is that of the part and its own there. A child of a step stands where its tree ends. A tree that is put in
+/// the place of a step stands there, and another may be put in its place. Its labels come between those before the part and
+/// those after it.
+pub fn parts_are_nested()
+    ensures step { (x : Plain) (k j : ℕ) → 1 ≤ k → k ≤ size_of x → 1 ≤ j → j ≤ size_of (step_at x k) → step_at x (number_in x k j) ≡ step_at (step_at x k) j }
+    ensures puts { (new x : Plain) (k j : ℕ) → 1 ≤ k → k ≤ size_of x → 1 ≤ j → j ≤ size_of (step_at x k) → put x (number_in x k j) new ≡ put x k (put (step_at x k) j new) }
+    ensures depth { (x : Plain) (k j : ℕ) → 1 ≤ k → k ≤ size_of x → 1 ≤ j → j ≤ size_of (step_at x k) → depth_at x (number_in x k j) ≡ depth_at x k + depth_at (step_at x k) j }
+    ensures child { (x : Plain) (k : ℕ) (t : List WSym) (l : ℕ) (s : Pairs) (kids : List Plain) (i : ℕ) (d : Plain) → 1 ≤ k → k ≤ size_of x → step_at x k ≡ known t l s kids → i < length kids → step_at x (number_in x k (number_of_child kids i)) ≡ get_or kids i d }
+    ensures stands { (new x : Plain) (k j : ℕ) → 1 ≤ k → k ≤ size_of x → 1 ≤ j → j ≤ size_of new → step_at (put x k new) (number_in x k j) ≡ step_at new j }
+    ensures again { (a b x : Plain) (k : ℕ) → 1 ≤ k → k ≤ size_of x → put (put x k a) (number_in x k (size_of a)) b ≡ put x k b }
+    ensures labels { (new x : Plain) (k : ℕ) → 1 ≤ k → k ≤ size_of x → labels_in (put x k new) ≡ take (k - size_of (step_at x k)) (labels_in x) ++ (labels_in new ++ drop k (labels_in x)) }
+{}
