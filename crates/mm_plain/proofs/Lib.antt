@@ -26,3 +26,4 @@ pub mod Drawing
 pub mod LabelTrees
 pub mod Nested
 pub mod Children
+pub mod Rows

@@ -271,3 +271,22 @@ put-within new = by_trees (PutsWithin new)
           ∙ ap (λ n. put x n new) same
           ∙ sym (put-root t l s kids k (put (step_at x k) j new) z ∙ ap (λ y. put y j new) is)
     ])
+
+-- the labels of a part are a run of those of the whole
+pub labels_in-part : (x : Plain) (k : ℕ) → 1 ≤ k → k ≤ size_of x → labels_in (step_at x k) ≡ take (size_of (step_at x k)) (drop (k - size_of (step_at x k)) (labels_in x))
+labels_in-part x k h g =
+    let a = around x k h g in
+    let y : Plain = step_at x k in
+    let number = a.number in
+    let front : List (Option ℕ) = map label_of a.before in
+    let back : List (Option ℕ) = map label_of a.after in
+    let whole : labels_in x ≡ front ++ (labels_in y ++ back) =
+    ap (map label_of) a.is ∙ map-append label_of a.before (steps_of y ++ a.after) ∙ ap (λ ls. front ++ ls) (map-append label_of (steps_of y) a.after) in
+    let long : length front ≡ k - size_of y = length-map a.before label_of ∙ (let z : length a.before ≡ k - size_of y = omega arith in z) in
+    let size : length (labels_in y) ≡ size_of y = length-map (steps_of y) label_of ∙ length-steps_of y in
+    sym (
+    ap (λ ls. take (size_of y) (drop (k - size_of y) ls)) whole
+    ∙ ap (λ n. take (size_of y) (drop n (front ++ (labels_in y ++ back)))) (sym long)
+    ∙ ap (take (size_of y)) (drop-append_seam front (labels_in y ++ back))
+    ∙ ap (λ n. take n (labels_in y ++ back)) (sym size)
+    ∙ take-append_seam (labels_in y) back)

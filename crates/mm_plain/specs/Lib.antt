@@ -10,3 +10,4 @@ pub mod Lengths
 pub mod Grafts
 pub mod Drawing
 pub mod LabelTrees
+pub mod Rows

@@ -1,6 +1,6 @@
 //! What holds of plain proofs.
 
-ghost use Rattle.std.specs.Prelude.{◌≡◌, ◌+◌, ◌-◌, ◌<◌, ◌≤◌, ◌++◌, max, ℕ, false, true, All, List, Option, None, Some, drop, get_or, length, map, take};
+ghost use Rattle.std.specs.Prelude.{◌≡◌, ◌+◌, ◌-◌, ◌<◌, ◌≤◌, ◌++◌, max, ℕ, false, true, All, List, [], ◌∷◌, Option, None, Some, drop, get_or, length, map, reverse, take};
 ghost use Rattle.std.specs.List.{sum_by};
 ghost use Rattle.std.specs.Option.{option_map};
 ghost use Rattle.mm_scope.specs.Contents.{labels_of};
@@ -12,6 +12,7 @@ ghost use Rattle.mm_plain.specs.Lengths.{first_long};
 ghost use Rattle.mm_plain.specs.Numbers.{HasOwnLabels, labels_in, number_in, number_of_child};
 ghost use Rattle.mm_plain.specs.Shape.{Proof, depth_at, depths_of, known, placed, put, size_of, height_of, step_at, steps_of, target_of};
 ghost use Rattle.mm_plain.specs.Sources.{sigma_of, source_of};
+ghost use Rattle.mm_plain.specs.Rows.{fresh_rows, rows_of, with_rows};
 ghost use Rattle.mm_plain.specs.Premises.{may_stand, premises_of, variables_for};
 ghost use Rattle.mm_plain.specs.Valid.{Fits, IsString, IsValid, Setting, first_setting, most_levels, most_steps, most_works, placed_in, setting_of};
 ghost use Rattle.mm_subst.specs.Substitutions.{Pairs, applied, then_by};
@@ -115,8 +116,8 @@ pub fn labels_begin_valid_proofs(bytes: &[u8])
 
 /// Step j of the part at a step is a step of the whole, j numbers after where the part begins. It may be replaced in either,
 /// and its depth is that of the part and its own there. A child of a step stands where its tree ends. A tree that is put in
-/// the place of a step stands there, and another may be put in its place. Its labels come between those before the part and
-/// those after it.
+/// the place of a step stands there, and another may be put in its place. The labels of a part are a run of those of the
+/// whole; the labels of a tree in its place come between those before it and those after it.
 pub fn parts_are_nested()
     ensures step { (x : Plain) (k j : ℕ) → 1 ≤ k → k ≤ size_of x → 1 ≤ j → j ≤ size_of (step_at x k) → step_at x (number_in x k j) ≡ step_at (step_at x k) j }
     ensures puts { (new x : Plain) (k j : ℕ) → 1 ≤ k → k ≤ size_of x → 1 ≤ j → j ≤ size_of (step_at x k) → put x (number_in x k j) new ≡ put x k (put (step_at x k) j new) }
@@ -124,5 +125,19 @@ pub fn parts_are_nested()
     ensures child { (x : Plain) (k : ℕ) (t : List WSym) (l : ℕ) (s : Pairs) (kids : List Plain) (i : ℕ) (d : Plain) → 1 ≤ k → k ≤ size_of x → step_at x k ≡ known t l s kids → i < length kids → step_at x (number_in x k (number_of_child kids i)) ≡ get_or kids i d }
     ensures stands { (new x : Plain) (k j : ℕ) → 1 ≤ k → k ≤ size_of x → 1 ≤ j → j ≤ size_of new → step_at (put x k new) (number_in x k j) ≡ step_at new j }
     ensures again { (a b x : Plain) (k : ℕ) → 1 ≤ k → k ≤ size_of x → put (put x k a) (number_in x k (size_of a)) b ≡ put x k b }
+    ensures run { (x : Plain) (k : ℕ) → 1 ≤ k → k ≤ size_of x → labels_in (step_at x k) ≡ take (size_of (step_at x k)) (drop (k - size_of (step_at x k)) (labels_in x)) }
     ensures labels { (new x : Plain) (k : ℕ) → 1 ≤ k → k ≤ size_of x → labels_in (put x k new) ≡ take (k - size_of (step_at x k)) (labels_in x) ++ (labels_in new ++ drop k (labels_in x)) }
 {}
+
+/// A tree whose steps fit is made of its rows, one after another: each takes the last trees that stand. With fresh work
+/// variables its rows follow, from the last to the first, from its labels, a target and the number of the next work variable
+/// after it. So it is with the part at a step of a valid proof, and with the proof that labels begin.
+pub fn rows_follow_from_labels(bytes: &[u8])
+    ensures made { (at : ℕ) (x : Plain) → AreFitting bytes.now at x → with_rows bytes.now [] (rows_of x) ≡ x ∷ [] }
+    ensures rows { (at : ℕ) (x : Plain) → AreFitting bytes.now at x → (n : ℕ) (t : List WSym) → reverse (rows_of (with_fresh bytes.now x n t)) ≡ fresh_rows bytes.now (n + draws_of bytes.now x) (t ∷ []) (reverse (labels_in x)) }
+    ensures fresh { (at : ℕ) (x : Plain) → AreFitting bytes.now at x → (n : ℕ) (t : List WSym) → AreFitting bytes.now at (with_fresh bytes.now x n t) }
+    ensures part { (at k : ℕ) (goal : List WSym) (p : Proof) → IsValid bytes.now at goal p → 1 ≤ k → k ≤ size_of p.plain → AreFitting bytes.now at (step_at p.plain k) }
+    ensures begun { (at : ℕ) (goal : List WSym) (labels : List (Option ℕ)) (p : Proof) → fresh_proof_of bytes.now goal labels ≡ Some p → All (MayStand bytes.now at) labels → (with_rows bytes.now [] (rows_of p.plain) ≡ p.plain ∷ []) × (reverse (rows_of p.plain) ≡ fresh_rows bytes.now p.next (goal ∷ []) (reverse labels)) }
+{
+    let _ = bytes;
+}

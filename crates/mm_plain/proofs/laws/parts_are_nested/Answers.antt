@@ -1,4 +1,4 @@
-use Rattle.mm_plain.proofs.Nested.{step-within, put-within, step-put, labels_in-put}
+use Rattle.mm_plain.proofs.Nested.{step-within, put-within, step-put, labels_in-part, labels_in-put}
 use Rattle.mm_plain.proofs.Children.{child-step_in, depth-within, put-put}
 use Rattle.mm_plain.proofs.laws.parts_are_nested.Goals as goal
 
@@ -19,6 +19,9 @@ returns-clause-stands c = step-put
 
 pub returns-clause-again : goal.returns-clause-again
 returns-clause-again c = put-put
+
+pub returns-clause-run : goal.returns-clause-run
+returns-clause-run c = labels_in-part
 
 pub returns-clause-labels : goal.returns-clause-labels
 returns-clause-labels c = labels_in-put
