@@ -14,3 +14,16 @@ pub mod Forms
 mod Places
 mod Labelling
 pub mod Labels
+pub mod Binding
+pub mod Works
+pub mod First
+pub mod Bounds
+pub mod Parts
+pub mod Moved
+pub mod Grafts
+pub mod Fresh
+pub mod Drawing
+pub mod LabelTrees
+pub mod Nested
+pub mod Children
+pub mod Rows

@@ -5,3 +5,9 @@ pub mod Valid
 pub mod Numbers
 pub mod Forms
 pub mod Labels
+pub mod Binding
+pub mod Lengths
+pub mod Grafts
+pub mod Drawing
+pub mod LabelTrees
+pub mod Rows
