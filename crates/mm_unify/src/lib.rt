@@ -1,0 +1,14 @@
+//! The unifiers of two strings with work variables: every way in which they can be made equal, in a stated order.
+#![tactic(auto)]
+
+mod brackets;
+mod found;
+mod laws;
+mod listing;
+mod numbers;
+mod search;
+mod values;
+mod waiting;
+
+pub use laws::{more_trials_change_nothing, one_value_is_found, sides_do_not_matter};
+pub use listing::{Ended, Listing, Rule, Settings, unifiers};
