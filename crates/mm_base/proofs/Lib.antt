@@ -1,3 +1,4 @@
+pub mod RecorderLemmas
 pub mod SinkLemmas
 pub mod SourceLemmas
 pub mod StoreLemmas
