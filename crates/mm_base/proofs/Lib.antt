@@ -1,3 +1,4 @@
+pub mod LogLemmas
 pub mod RecorderLemmas
 pub mod SinkLemmas
 pub mod SourceLemmas

@@ -1,10 +1,12 @@
 -- What recorders have heard after calls on each of them.
-use Rattle.std.proofs.Common.{get_or-set_same, Result, Ok, Err, is_ok, is_err, true≢false, ◌≡◌, ◌<◌, ◌≤◌, ◌+◌, ℕ, zero, suc, Bool, true, false, IsTrue, List, [], ◌∷◌, ◌++◌, length, get_or, set, take, drop, refl, sym, ◌∙◌, ap, subst, append_assoc, arith}
+use Rattle.std.proofs.Common.{nat_lt, if◌then◌else◌, get_or-set_same, Result, Ok, Err, is_ok, is_err, true≢false, ◌≡◌, ◌<◌, ◌≤◌, ◌+◌, ℕ, Bool, true, false, List, [], ◌∷◌, ◌++◌, length, get_or, set, refl, sym, ◌∙◌, ap, subst, append_assoc, arith}
 use Rattle.std.specs.List.{All, AllByRecursion, remove}
 use Rattle.std.proofs.lemmas.List.Elements.{recursion_from_All, All-from_recursion}
-use Rattle.std.proofs.lemmas.List.Edits.{remove-append_right}
 use Rattle.std.proofs.Math.ListN.{length-append}
-use Rattle.mm_base.specs.Recorder.{Log, begun_with, heard_with, longer, StartsWith, IsPart, HasHeard, HasFailed, SplitInOrder, none_left, one_stays, one_lost}
+use Rattle.std.proofs.lemmas.Bool.Decides.{nat_tests}
+use Rattle.mm_base.specs.Outside.{RoseBy}
+use Rattle.mm_base.specs.Memory.{CallCount, CountsCall, RecorderState, MemoryFailed}
+use Rattle.mm_base.specs.Recorder.{Log, begun_with, heard_with, StartsWith, IsPart, HasHeard, SplitInOrder, none_left, one_stays, one_lost}
 use Rattle.mm_base.proofs.SinkLemmas.{append_nil}
 
 -- ## Parts of logs
@@ -191,3 +193,22 @@ all_stay Stays Lost h (r ∷ rs) = one_stays r r rs rs [] (h r) (all_stay Stays 
 
 pub none_lost : {R : Type 0} (Stays Lost : R → R → Type 0) → ((r : R) → Stays r r) → (rs others : List R) → (gone : List R) × (others ≡ others ++ gone) × SplitInOrder Stays Lost rs rs gone
 none_lost Stays Lost h rs others = ([], sym (append_nil others), all_stay Stays Lost h rs)
+
+-- ## A recorder in memory that fails
+
+counted : (n : ℕ) (b : Bool) → nat_lt n 18446744073709551615 ≡ b → (n ≤ (if b then n + 1 else n)) × RoseBy 1 n (if b then n + 1 else n)
+counted n true is = (omega arith, omega arith)
+counted n false is = (omega arith, grind (arith, nat_tests))
+
+pub memory_failed : (after : List Log → List Log) (old : RecorderState) (calls : CallCount) → CountsCall old.calls calls true → ((ls : List Log) → IsPart ls (after ls))
+    → MemoryFailed after old (record { kept = old.kept; begun = old.begun; calls = calls })
+memory_failed after old calls counts grows =
+    let n = old.calls.faults in
+    let h = counted n (nat_lt n 18446744073709551615) refl in
+    record {
+      told = λ t. t;
+      grows = λ t. part_same old.kept.logs;
+      part = λ t. grows old.kept.logs;
+      never_falls = subst (λ m. n ≤ m) (sym counts.faults) h.0;
+      rose = subst (λ m. RoseBy 1 n m) (sym counts.faults) h.1;
+    }

@@ -1,5 +1,5 @@
 -- What recorders have heard.
-use Rattle.std.specs.Prelude.{◌≡◌, ◌≤◌, ℕ, zero, suc, Bool, true, false, IsTrue, List, [], ◌∷◌, ◌++◌, Option, Some, None, slice_get, if◌then◌else◌}
+use Rattle.std.specs.Prelude.{◌≡◌, ◌≤◌, ℕ, zero, suc, Bool, true, false, IsTrue, List, [], ◌∷◌, ◌++◌, Option, None, slice_get}
 use Rattle.mm_base.specs.Outside.{RoseBy}
 use Rattle.mm_base.specs.declared.recorders.Call.{Call}
 use Rattle.mm_base.specs.declared.recorders.Call.TheVariants.{Begin, Hear, Finish}

@@ -1,6 +1,5 @@
-use Rattle.std.proofs.Common.{arith, refl, sym, subst, set, get_or}
-use Rattle.std.specs.List.{remove}
-use Rattle.mm_base.proofs.RecorderLemmas.{Passed, passed_none, passed_next, passed_stays, passed_lost, passed_all}
+use Rattle.std.proofs.Common.{arith, refl}
+use Rattle.mm_base.proofs.RecorderLemmas.{passed_none, passed_next, passed_stays, passed_lost, passed_all}
 use Rattle.mm_base.proofs.recorders.call_each.Goals as goal
 
 pub loop-i-init : goal.loop-i-init
