@@ -1,3 +1,4 @@
+pub mod HeardLemmas
 pub mod LogLemmas
 pub mod RecorderLemmas
 pub mod SinkLemmas

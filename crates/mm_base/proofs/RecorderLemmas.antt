@@ -6,7 +6,7 @@ use Rattle.std.proofs.Math.ListN.{length-append}
 use Rattle.std.proofs.lemmas.Bool.Decides.{nat_tests}
 use Rattle.mm_base.specs.Outside.{RoseBy}
 use Rattle.mm_base.specs.Memory.{CallCount, CountsCall, RecorderState, MemoryFailed}
-use Rattle.mm_base.specs.Recorder.{Log, begun_with, heard_with, StartsWith, IsPart, HasHeard, SplitInOrder, none_left, one_stays, one_lost}
+use Rattle.mm_base.specs.Recorder.{Log, begun_with, heard_with, StartsWith, IsPart, HasHeard, HasFailed, SplitInOrder, none_left, one_stays, one_lost, CallsEach}
 use Rattle.mm_base.proofs.SinkLemmas.{append_nil}
 
 -- ## Parts of logs
@@ -48,6 +48,12 @@ module _ {R : Type 0} (Stays Lost : R → R → Type 0) where
   split_lost rs live gone r now none_left h = one_lost r now [] [] [] h none_left
   split_lost rs live gone r now (one_stays a b xs ys zs k rest) h = one_stays a b _ _ _ k (split_lost xs ys zs r now rest h)
   split_lost rs live gone r now (one_lost a b xs ys zs k rest) h = one_lost a b _ _ _ k (split_lost xs ys zs r now rest h)
+
+-- what is lost goes behind the others
+pub record AreSplit {R : Type 0} (Stays Lost : R → R → Type 0) (whole others live lost : List R) : Type 0 where
+  pub gone : List R
+  pub lost_is : lost ≡ others ++ gone
+  pub split : SplitInOrder Stays Lost whole live gone
 
 -- How far the calls have come: the first recorders are split, and the rest is as it was.
 pub record Passed {R : Type 0} (Stays Lost : R → R → Type 0) (Before After : R → Type 0) (whole live others lost : List R) (i : ℕ) : Type 0 where
@@ -155,13 +161,13 @@ module _ {R : Type 0} (Stays Lost : R → R → Type 0) (Before After : R → Ty
 
   -- no one is left
   pub passed_all : (live lost : List R) (i : ℕ) → Passed Stays Lost Before After whole live others lost i → length live ≤ i
-      → All After live × ((gone : List R) × (lost ≡ others ++ gone) × SplitInOrder Stays Lost whole live gone)
+      → All After live × AreSplit Stays Lost whole others live lost
   passed_all live lost i p h = at p.rest p.whole_is p.live_is where
-    at : (rest : List R) → whole ≡ p.front ++ rest → live ≡ p.done ++ rest → All After live × ((gone : List R) × (lost ≡ others ++ gone) × SplitInOrder Stays Lost whole live gone)
+    at : (rest : List R) → whole ≡ p.front ++ rest → live ≡ p.done ++ rest → All After live × AreSplit Stays Lost whole others live lost
     at [] whole_is is =
         let same : live ≡ p.done = is ∙ append_nil p.done in
         let all : whole ≡ p.front = whole_is ∙ append_nil p.front in
-        (All-from_recursion After live (subst (AllByRecursion After) (sym same) p.after), (p.gone, p.lost_is, subst (λ w. SplitInOrder Stays Lost w live p.gone) (sym all) (subst (λ l. SplitInOrder Stays Lost p.front l p.gone) (sym same) p.split)))
+        (All-from_recursion After live (subst (AllByRecursion After) (sym same) p.after), record { gone = p.gone; lost_is = p.lost_is; split = subst (λ w. SplitInOrder Stays Lost w live p.gone) (sym all) (subst (λ l. SplitInOrder Stays Lost p.front l p.gone) (sym same) p.split) })
     at (r ∷ rest) whole_is is = let n : length live ≡ length p.done + length (r ∷ rest) = ap length is ∙ length-append p.done (r ∷ rest) in absurd (omega (arith, n, p.here))
 
 -- ## A call that fails
@@ -184,15 +190,19 @@ part_of_heard piece front old new starts is = subst (λ ls. IsPart ls (heard_wit
 
 -- ## Where nothing is called
 
-pub heard_none : {R : Type 0} (tells : R → Bool) (logs : R → List Log) (faults : R → ℕ) (r : R) → HasHeard tells logs faults (λ ls. ls) r r
+heard_none : {R : Type 0} (tells : R → Bool) (logs : R → List Log) (faults : R → ℕ) (r : R) → HasHeard tells logs faults (λ ls. ls) r r
 heard_none tells logs faults r = record { told = λ t. t; whole = λ t. refl; stays = refl }
 
 all_stay : {R : Type 0} (Stays Lost : R → R → Type 0) → ((r : R) → Stays r r) → (rs : List R) → SplitInOrder Stays Lost rs rs []
 all_stay Stays Lost h [] = none_left
 all_stay Stays Lost h (r ∷ rs) = one_stays r r rs rs [] (h r) (all_stay Stays Lost h rs)
 
-pub none_lost : {R : Type 0} (Stays Lost : R → R → Type 0) → ((r : R) → Stays r r) → (rs others : List R) → (gone : List R) × (others ≡ others ++ gone) × SplitInOrder Stays Lost rs rs gone
-none_lost Stays Lost h rs others = ([], sym (append_nil others), all_stay Stays Lost h rs)
+pub no_calls : {R : Type 0} (tells : R → Bool) (logs : R → List Log) (faults : R → ℕ) (live lost : List R) → CallsEach tells logs faults (λ ls. ls) live lost live lost
+no_calls tells logs faults live lost = record {
+  gone = [];
+  lost_is = sym (append_nil lost);
+  split = all_stay (HasHeard tells logs faults (λ ls. ls)) (HasFailed tells logs faults (λ ls. ls)) (heard_none tells logs faults) live;
+}
 
 -- ## A recorder in memory that fails
 

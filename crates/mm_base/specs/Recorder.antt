@@ -88,8 +88,20 @@ pub data SplitInOrder {R : Type 0} (Stays Lost : R → R → Type 0) : List R �
   one_stays : (r now : R) (rs live lost : List R) → Stays r now → SplitInOrder Stays Lost rs live lost → SplitInOrder Stays Lost (r ∷ rs) (now ∷ live) lost
   one_lost : (r now : R) (rs live lost : List R) → Lost r now → SplitInOrder Stays Lost rs live lost → SplitInOrder Stays Lost (r ∷ rs) live (now ∷ lost)
 
+-- A call on each live recorder: those that fail go to the end of the lost ones.
+pub record CallsEach {R : Type 0} (tells : R → Bool) (logs : R → List Log) (faults : R → ℕ) (after : List Log → List Log) (live lost live' lost' : List R) : Type 0 where
+  pub gone : List R
+  pub lost_is : lost' ≡ lost ++ gone
+  pub split : SplitInOrder (HasHeard tells logs faults after) (HasFailed tells logs faults after) live live' gone
+
 -- Each recorder either stays or is lost, and those that stay keep the order.
 pub data Split {R : Type 0} (Stays Lost : R → R → Type 0) : List R → List R → List R → Type 0 where
-  nobody : Split Stays Lost [] [] []
-  stays : (r now : R) (rs live lost : List R) → Stays r now → Split Stays Lost rs live lost → Split Stays Lost (r ∷ rs) (now ∷ live) lost
-  lost : (r now : R) (rs live before after : List R) → Lost r now → Split Stays Lost rs live (before ++ after) → Split Stays Lost (r ∷ rs) live (before ++ now ∷ after)
+  no_one : Split Stays Lost [] [] []
+  stays_live : (r now : R) (rs live lost : List R) → Stays r now → Split Stays Lost rs live lost → Split Stays Lost (r ∷ rs) (now ∷ live) lost
+  gets_lost : (r now : R) (rs live before after : List R) → Lost r now → Split Stays Lost rs live (before ++ after) → Split Stays Lost (r ∷ rs) live (before ++ now ∷ after)
+
+-- Calls one after another: each recorder has heard these logs more and is live, or it has failed and is lost, with a part of them.
+pub record HaveHeard {R : Type 0} (tells : R → Bool) (logs : R → List Log) (faults : R → ℕ) (more : List Log) (live lost live' lost' : List R) : Type 0 where
+  pub gone : List R
+  pub lost_is : lost' ≡ lost ++ gone
+  pub split : Split (HasHeard tells logs faults (λ ls. ls ++ more)) (HasFailed tells logs faults (λ ls. ls ++ more)) live live' gone

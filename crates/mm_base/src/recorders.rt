@@ -1,5 +1,5 @@
 ghost use Rattle.std.specs.Prelude.{◌≡◌, ◌≤◌, ◌+◌, ◌++◌, [], List, Bool, true, false, All, IfOk, IfErr, vec_len, vec_capacity};
-ghost use Rattle.mm_base.specs.Recorder.{HasHeard, HasFailed, SplitInOrder, begun_with, heard_where, logs_after, begun_before, begun_after};
+ghost use Rattle.mm_base.specs.Recorder.{CallsEach, HasHeard, HasFailed, begun_with, heard_where, logs_after, begun_before, begun_after};
 
 use crate::Memory;
 use crate::recorder::Recorder;
@@ -58,7 +58,7 @@ impl Recorders {
         requires ready { All (λ r. is_begun r ≡ false) self.old.live.items }
         ensures opened { self.new.begun ≡ true }
         ensures ready { All (λ r. is_begun r ≡ true) self.new.live.items }
-        ensures split { (gone : List _) × (self.new.lost.items ≡ self.old.lost.items ++ gone) × SplitInOrder (HasHeard (λ r. tells r) (λ r. logs r) (λ r. faults r) (begun_with name.now)) (HasFailed (λ r. tells r) (λ r. logs r) (λ r. faults r) (begun_with name.now)) self.old.live.items self.new.live.items gone }
+        ensures split { CallsEach (λ r. tells r) (λ r. logs r) (λ r. faults r) (begun_with name.now) self.old.live.items self.old.lost.items self.new.live.items self.new.lost.items }
     {
         call_each(&mut self.live, &mut self.lost, Call::Begin(name));
         self.begun = true;
@@ -69,7 +69,7 @@ impl Recorders {
         requires { All (λ r. is_begun r ≡ self.old.begun) self.old.live.items }
         ensures same { self.new.begun ≡ self.old.begun }
         ensures ready { All (λ r. is_begun r ≡ self.new.begun) self.new.live.items }
-        ensures split { (gone : List _) × (self.new.lost.items ≡ self.old.lost.items ++ gone) × SplitInOrder (HasHeard (λ r. tells r) (λ r. logs r) (λ r. faults r) (heard_where self.old.begun piece.now)) (HasFailed (λ r. tells r) (λ r. logs r) (λ r. faults r) (heard_where self.old.begun piece.now)) self.old.live.items self.new.live.items gone }
+        ensures split { CallsEach (λ r. tells r) (λ r. logs r) (λ r. faults r) (heard_where self.old.begun piece.now) self.old.live.items self.old.lost.items self.new.live.items self.new.lost.items }
         ensures nothing { self.old.begun ≡ false → self.new ≡ self.old }
     {
         if self.begun {
@@ -82,7 +82,7 @@ impl Recorders {
         requires { All (λ r. is_begun r ≡ self.old.begun) self.old.live.items }
         ensures closed { self.new.begun ≡ false }
         ensures ready { All (λ r. is_begun r ≡ false) self.new.live.items }
-        ensures split { (gone : List _) × (self.new.lost.items ≡ self.old.lost.items ++ gone) × SplitInOrder (HasHeard (λ r. tells r) (λ r. logs r) (λ r. faults r) (λ ls. ls)) (HasFailed (λ r. tells r) (λ r. logs r) (λ r. faults r) (λ ls. ls)) self.old.live.items self.new.live.items gone }
+        ensures split { CallsEach (λ r. tells r) (λ r. logs r) (λ r. faults r) (λ ls. ls) self.old.live.items self.old.lost.items self.new.live.items self.new.lost.items }
         ensures nothing { self.old.begun ≡ false → self.new ≡ self.old }
     {
         if self.begun {
@@ -120,7 +120,7 @@ fn call_each(live: &mut Vec<Box<dyn Recorder>>, lost: &mut Vec<Box<dyn Recorder>
     requires room { vec_len live.old + vec_len lost.old ≤ vec_capacity lost.old }
     ensures begun { All (λ r. is_begun r ≡ begun_after call.entry) live.new.items }
     ensures room { vec_len live.new + vec_len lost.new ≤ vec_capacity lost.new }
-    ensures split { (gone : List _) × (lost.new.items ≡ lost.old.items ++ gone) × SplitInOrder (HasHeard (λ r. tells r) (λ r. logs r) (λ r. faults r) (logs_after call.entry)) (HasFailed (λ r. tells r) (λ r. logs r) (λ r. faults r) (logs_after call.entry)) live.old.items live.new.items gone }
+    ensures split { CallsEach (λ r. tells r) (λ r. logs r) (λ r. faults r) (logs_after call.entry) live.old.items lost.old.items live.new.items lost.new.items }
 {
     let mut i = 0;
     while i < live.len() {

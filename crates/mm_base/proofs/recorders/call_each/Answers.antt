@@ -26,4 +26,4 @@ loop-i-preserved g c = record {
 pub returns : goal.returns
 returns g c =
     let all = passed_all _ _ _ _ _ _ _ _ _ c.loop-i.invariant.passed (omega (arith, c.loop-i.live.ok.0)) in
-    record { begun = all.0; room = c.loop-i.invariant.room; split = all.1 }
+    record { begun = all.0; room = c.loop-i.invariant.room; split = record { gone = all.1.gone; lost_is = all.1.lost_is; split = all.1.split } }

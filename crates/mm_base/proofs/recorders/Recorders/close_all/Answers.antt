@@ -1,5 +1,5 @@
-use Rattle.mm_base.proofs.RecorderLemmas.{heard_none, none_lost}
+use Rattle.mm_base.proofs.RecorderLemmas.{no_calls}
 use Rattle.mm_base.proofs.recorders.Recorders.close_all.Goals as goal
 
 pub returns-else-self-clause-split : goal.returns-else-self-clause-split
-returns-else-self-clause-split g c = none_lost _ _ (heard_none _ _ _) c.args.self.now.live.items c.args.self.now.lost.items
+returns-else-self-clause-split g c = no_calls _ _ _ c.args.self.now.live.items c.args.self.now.lost.items
