@@ -1,6 +1,7 @@
 -- What the kinds in memory hold.
 use Rattle.std.specs.Prelude.{◌≡◌, ◌+◌, ◌<◌, ◌↔◌, ℕ, Bool, true, false, IsTrue, ◌&&◌, nat_lt, nat_le, if◌then◌else◌, min, List, ◌++◌, take, length, Contains, Option, option_map, find}
 use Rattle.std.specs.Str.{bytes_eq}
+use Rattle.mm_base.specs.Recorder.{HasFailed, HasHeard, Log, begun_with, heard_with}
 
 pub record NamedFile : Type 0 where
   pub name : List ℕ
@@ -61,3 +62,46 @@ pub record FilesState : Type 0 where
 pub record SureState : Type 0 where
   pub files : List NamedFile
   pub made : ℕ
+
+-- ## A recorder in memory
+
+-- the logs that are kept, how many bytes their names and bytes have, the room for both, and whether they are all
+pub record KeptLogs : Type 0 where
+  pub logs : List Log
+  pub used : ℕ
+  pub pairs : ℕ
+  pub room : ℕ
+  pub told : Bool
+
+-- whether there is room for one log more, of this name
+abbrev pub has_room_for_log : KeptLogs → List ℕ → Bool
+has_room_for_log old name = old.told && nat_lt (length old.logs) old.pairs && nat_le (old.used + length name) old.room
+
+-- whether there is room for a piece more
+abbrev pub has_room_for_piece : KeptLogs → List ℕ → Bool
+has_room_for_piece old piece = old.told && nat_le (old.used + length piece) old.room
+
+-- what is kept once a log is begun
+abbrev pub kept_begun : List ℕ → KeptLogs → KeptLogs
+kept_begun name old =
+    if has_room_for_log old name then record old { logs = begun_with name old.logs; used = old.used + length name }
+    else record old { told = false }
+
+-- what is kept once a piece is heard
+abbrev pub kept_heard : List ℕ → KeptLogs → KeptLogs
+kept_heard piece old =
+    if has_room_for_piece old piece then record old { logs = heard_with piece old.logs; used = old.used + length piece }
+    else record old { told = false }
+
+-- the value of a `MemRecorder`
+pub record RecorderState : Type 0 where
+  pub kept : KeptLogs
+  pub begun : Bool
+  pub calls : CallCount
+
+-- it has heard all, or has failed and heard a part
+abbrev pub MemoryHeard : (List Log → List Log) → RecorderState → RecorderState → Type 0
+MemoryHeard after old new = HasHeard (λ (r : RecorderState). r.kept.told) (λ (r : RecorderState). r.kept.logs) (λ (r : RecorderState). r.calls.faults) after old new
+
+abbrev pub MemoryFailed : (List Log → List Log) → RecorderState → RecorderState → Type 0
+MemoryFailed after old new = HasFailed (λ (r : RecorderState). r.kept.told) (λ (r : RecorderState). r.kept.logs) (λ (r : RecorderState). r.calls.faults) after old new
