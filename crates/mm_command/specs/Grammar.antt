@@ -6,6 +6,7 @@ use Rattle.mm_base.specs.Name.{is_name_lem}
 use Rattle.mm_command.specs.declared.fault.LineFault.{LineFault}
 use Rattle.mm_command.specs.declared.keyword.Unfit.{Unfit}
 use Rattle.mm_command.specs.declared.keyword.Unfit.TheVariants.{NoKeyword, Ambiguous}
+use Rattle.mm_command.specs.Limits.{most_work}
 use Rattle.mm_command.specs.Names.{Name}
 use Rattle.mm_command.specs.Words.{Piece, Plain, Slash, Equals, Unclosed}
 use Rattle.mm_command.specs.Keywords.{keyword_of}
@@ -99,7 +100,7 @@ number_at low high n word =
 abbrev pub variable_at : ℕ → List ℕ → Result Value LineFault
 variable_at n [] = fault 3 n
 variable_at n (b ∷ digits) =
-    if b == 36 && not (begins_with (λ d. d == 48) digits) then number_at 1 4000000000 n digits else fault 3 n
+    if b == 36 && not (begins_with (λ d. d == 48) digits) then number_at 1 most_work n digits else fault 3 n
 
 abbrev pub step_keywords : List (List ℕ)
 step_keywords = codes "FIRST" ∷ codes "LAST" ∷ []

@@ -2,6 +2,7 @@
 use Rattle.std.specs.Prelude.{ℕ, Bool, true, ◌==◌, Result, Ok, if◌then◌else◌, List, [], ◌∷◌, None, Some, codes}
 use Rattle.std.specs.List.{fold}
 use Rattle.mm_command.specs.declared.fault.LineFault.{LineFault}
+use Rattle.mm_command.specs.Limits.{most_choice, most_demo, most_depth, most_trials, most_undo}
 use Rattle.mm_command.specs.Words.{past_blanks, pieces_of}
 use Rattle.mm_command.specs.Names.{Name, Nothing, Read, VerifyProof, VerifyMarkup, ShowStatement, ShowTraceBack, ShowUsage, ShowNewProof, SetUndo, SetTrials, SetBrackets, SetEmpty, WriteSource, OpenLog, CloseLog, Prove, Demo, Exit, Assign, Replace, LetVariable, LetStep, UnifyStep, UnifyAll, InitializeStep, InitializeAll, DeleteStep, DeleteAll, DeleteFloats, Improve, Minimize, Undo, Redo, Save}
 use Rattle.mm_command.specs.Grammar.{Place, Label, File, Text, EqualsSign, WorkVariable, Step, StepOrAll, OnOrOff, OffAlone, Number, Qualifier, Row, Said, rows_behind, rows_said}
@@ -17,10 +18,10 @@ abbrev pub flag_alone : List ℕ → List Qualifier
 flag_alone keyword = flag keyword 0 ∷ []
 
 abbrev pub choice_qualifiers : List Qualifier
-choice_qualifiers = with_value (codes "CHOICE") (Number 1 4294967295) 0 ∷ []
+choice_qualifiers = with_value (codes "CHOICE") (Number 1 most_choice) 0 ∷ []
 
 abbrev pub improve_qualifiers : List Qualifier
-improve_qualifiers = with_value (codes "DEPTH") (Number 0 100) 0 ∷ flag (codes "NO_DISTINCT") 1 ∷ []
+improve_qualifiers = with_value (codes "DEPTH") (Number 0 most_depth) 0 ∷ flag (codes "NO_DISTINCT") 1 ∷ []
 
 abbrev pub minimize_qualifiers : List Qualifier
 minimize_qualifiers =
@@ -43,15 +44,15 @@ table =
     ∷ row ShowTraceBack (codes "SHOW" ∷ codes "TRACE_BACK" ∷ []) (Label ∷ []) (flag_alone (codes "AXIOMS"))
     ∷ row ShowUsage (codes "SHOW" ∷ codes "USAGE" ∷ []) (Label ∷ []) (flag_alone (codes "RECURSIVE"))
     ∷ row ShowNewProof (codes "SHOW" ∷ codes "NEW_PROOF" ∷ []) [] (flag_alone (codes "UNKNOWN"))
-    ∷ row SetUndo (codes "SET" ∷ codes "UNDO" ∷ []) (Number 0 1000 ∷ []) []
-    ∷ row SetTrials (codes "SET" ∷ codes "UNIFICATION_TIMEOUT" ∷ []) (Number 1 10000000 ∷ []) []
+    ∷ row SetUndo (codes "SET" ∷ codes "UNDO" ∷ []) (Number 0 most_undo ∷ []) []
+    ∷ row SetTrials (codes "SET" ∷ codes "UNIFICATION_TIMEOUT" ∷ []) (Number 1 most_trials ∷ []) []
     ∷ row SetBrackets (codes "SET" ∷ codes "BRACKETS" ∷ []) (OnOrOff ∷ []) []
     ∷ row SetEmpty (codes "SET" ∷ codes "EMPTY_SUBSTITUTION" ∷ []) (OffAlone ∷ []) []
     ∷ row WriteSource (codes "WRITE" ∷ codes "SOURCE" ∷ []) (File ∷ []) []
     ∷ row OpenLog (codes "OPEN" ∷ codes "LOG" ∷ []) (File ∷ []) []
     ∷ row CloseLog (codes "CLOSE" ∷ codes "LOG" ∷ []) [] []
     ∷ row Prove (codes "PROVE" ∷ []) (Label ∷ []) (flag_alone (codes "OVERRIDE"))
-    ∷ row Demo (codes "DEMO" ∷ []) (Number 1 1000 ∷ []) []
+    ∷ row Demo (codes "DEMO" ∷ []) (Number 1 most_demo ∷ []) []
     ∷ row Exit (codes "EXIT" ∷ []) [] (flag_alone (codes "FORCE"))
     ∷ row Exit (codes "QUIT" ∷ []) [] (flag_alone (codes "FORCE"))
     ∷ row Assign (codes "ASSIGN" ∷ []) (Step ∷ Label ∷ []) (flag_alone (codes "OVERRIDE"))

@@ -7,6 +7,7 @@ ghost use Rattle.mm_command.specs.Taking.{HasRoom, Takes, Gives};
 ghost use Rattle.mm_command.specs.Spelled.{switch_value};
 
 use crate::fault::{LineFault, wrong};
+use crate::limits::MOST_WORK;
 use crate::number::{begins_with_zero, is_number, number_of};
 use crate::take::judge_keyword;
 use crate::words::{Word, Words};
@@ -143,7 +144,7 @@ fn judge_variable(bytes: &[u8], word: u32) -> Result<u64, LineFault>
             if begins_with_zero(digits) {
                 return Err(wrong(word));
             }
-            judge_number(digits, word, 1, 4_000_000_000)
+            judge_number(digits, word, 1, MOST_WORK)
         }
         _ => Err(wrong(word)),
     }

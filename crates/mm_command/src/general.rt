@@ -3,12 +3,14 @@
 ghost use Rattle.std.specs.Prelude.{[], ◌∷◌, codes};
 ghost use Rattle.mm_command.specs.Names.{Read, VerifyProof, VerifyMarkup, ShowStatement, ShowTraceBack, ShowUsage, ShowNewProof, SetUndo, SetTrials, SetBrackets, SetEmpty, WriteSource, OpenLog, CloseLog, Prove, Demo, Exit};
 ghost use Rattle.mm_command.specs.Grammar.{Label, File, OnOrOff, OffAlone, Number};
+ghost use Rattle.mm_command.specs.Limits.{most_demo, most_trials, most_undo};
 ghost use Rattle.mm_command.specs.Table.{flag_alone, row, rows_after};
 ghost use Rattle.mm_command.specs.Taking.{HasRoom, GivesRow, GivesRows};
 
 use crate::argument::{take_file, take_label, take_number, take_off, take_switch};
 use crate::command::Command;
 use crate::fault::LineFault;
+use crate::limits::{MOST_DEMO, MOST_TRIALS, MOST_UNDO};
 use crate::take::{end, take_flag, take_keyword};
 use crate::words::Words;
 
@@ -142,18 +144,18 @@ pub fn read_set(words: Words<'_>) -> Result<Command<'_>, LineFault>
 
 fn read_set_undo(words: Words<'_>) -> Result<Command<'_>, LineFault>
     requires { HasRoom words }
-    ensures { GivesRow (row SetUndo [] (Number 0 1000 ∷ []) []) words.entry result }
+    ensures { GivesRow (row SetUndo [] (Number 0 most_undo ∷ []) []) words.entry result }
 {
-    let (n, words) = take_number(words, 0, 1_000)?;
+    let (n, words) = take_number(words, 0, MOST_UNDO)?;
     end(words)?;
     Ok(Command::SetUndo { n })
 }
 
 fn read_set_trials(words: Words<'_>) -> Result<Command<'_>, LineFault>
     requires { HasRoom words }
-    ensures { GivesRow (row SetTrials [] (Number 1 10000000 ∷ []) []) words.entry result }
+    ensures { GivesRow (row SetTrials [] (Number 1 most_trials ∷ []) []) words.entry result }
 {
-    let (n, words) = take_number(words, 1, 10_000_000)?;
+    let (n, words) = take_number(words, 1, MOST_TRIALS)?;
     end(words)?;
     Ok(Command::SetTrials { n })
 }
@@ -249,9 +251,9 @@ pub fn read_prove(words: Words<'_>) -> Result<Command<'_>, LineFault>
 
 pub fn read_demo(words: Words<'_>) -> Result<Command<'_>, LineFault>
     requires { HasRoom words }
-    ensures { GivesRow (row Demo [] (Number 1 1000 ∷ []) []) words.entry result }
+    ensures { GivesRow (row Demo [] (Number 1 most_demo ∷ []) []) words.entry result }
 {
-    let (n, words) = take_number(words, 1, 1_000)?;
+    let (n, words) = take_number(words, 1, MOST_DEMO)?;
     end(words)?;
     Ok(Command::Demo { n })
 }

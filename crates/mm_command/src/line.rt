@@ -1,6 +1,7 @@
 //! What a line spells.
 
 ghost use Rattle.std.specs.Prelude.{◌≡◌, ◌≤◌, length};
+ghost use Rattle.mm_command.specs.Limits.{most_line};
 ghost use Rattle.mm_command.specs.Words.{past_blanks};
 ghost use Rattle.mm_command.specs.Table.{table, is_silent, line_said};
 ghost use Rattle.mm_command.specs.Taking.{HasRoom, Gives, GivesRows};
@@ -21,11 +22,11 @@ use crate::words::{Words, skip_blanks};
 
 /// The command that a line spells, or its first word that doesn't fit.
 ///
-/// The line has at most 65,536 bytes. Keywords have no case and may be shortened: a whole keyword wins, then the
+/// The line has at most `MOST_LINE` bytes. Keywords have no case and may be shortened: a whole keyword wins, then the
 /// beginning of one alone. Words are judged from left to right. No memory is taken.
 #[tactic(auto, unfolding(crate::specs::Table::line_said))]
 pub fn read_command<'a>(line: &'a [u8]) -> Result<Command<'a>, LineFault>
-    requires { length line.now ≤ 65536 }
+    requires { length line.now ≤ most_line }
     ensures { Gives spelled result (line_said line.now) }
 {
     if is_silent(skip_blanks(line)) {

@@ -9,6 +9,7 @@ ghost use Rattle.mm_command.specs.Given.{improve_given, minimize_given, save_giv
 
 use crate::argument::{take_label, take_number};
 use crate::fault::{LineFault, wrong};
+use crate::limits::{MOST_CHOICE, MOST_DEPTH};
 use crate::take::take_qualifier;
 use crate::words::Words;
 
@@ -67,7 +68,7 @@ fn add_choice(
     if choice.is_some() {
         return Err(wrong(keyword));
     }
-    let (number, rest) = take_number(words, 1, 4_294_967_295)?;
+    let (number, rest) = take_number(words, 1, MOST_CHOICE)?;
     Ok((Some(number), rest))
 }
 
@@ -100,7 +101,7 @@ fn add_improve(
 {
     match place {
         0 if given.depth.is_none() => {
-            let (number, rest) = take_number(words, 0, 100)?;
+            let (number, rest) = take_number(words, 0, MOST_DEPTH)?;
             let depth = Some(number);
             Ok((ImproveGiven { depth, ..given }, rest))
         }

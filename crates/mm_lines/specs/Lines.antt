@@ -1,5 +1,6 @@
 -- The lines of an input.
 use Rattle.std.specs.Prelude.{◌&&◌, ◌==◌, ℕ, Bool, false, List, [], ◌∷◌, if◌then◌else◌, map, take}
+use Rattle.mm_lines.specs.Limits.{most_kept}
 
 abbrev pub starts_with_lf : List ℕ → Bool
 starts_with_lf [] = false
@@ -21,7 +22,7 @@ lines_of (b ∷ bytes) =
 
 -- what is kept of a line: of one of more than 65,536 bytes so many that it is known to be too long
 abbrev pub kept : List ℕ → List ℕ
-kept line = take 65537 line
+kept line = take most_kept line
 
 abbrev pub kept_lines : List (List ℕ) → List (List ℕ)
 kept_lines lines = map (λ line. kept line) lines

@@ -1,6 +1,7 @@
 -- Pieces of lines.
 use Rattle.std.specs.Prelude.{◌≡◌, ◌==◌, ℕ, Bool, true, false, List, [], ◌∷◌, ◌++◌, take, if◌then◌else◌}
 use Rattle.std.specs.List.{list_any}
+use Rattle.mm_lines.specs.Limits.{most_held}
 
 abbrev pub is_lf : ℕ → Bool
 is_lf b = b == 10
@@ -22,7 +23,7 @@ line_of false raw = raw
 
 -- what is held of a line that has not ended: so many bytes that a CR at its end can still be taken off
 abbrev pub held : List ℕ → List ℕ
-held raw = take 65538 raw
+held raw = take most_held raw
 
 -- the bytes are a piece without an LF, an LF, and the rest
 pub record Splits (bytes piece rest : List ℕ) : Type 0 where

@@ -7,6 +7,7 @@ use Rattle.mm_lines.specs.declared.next.Next.{Next}
 use Rattle.mm_lines.specs.declared.next.Next.TheVariants.{Line, End}
 use Rattle.mm_lines.specs.declared.next.Stopped.{Stopped}
 use Rattle.mm_lines.specs.declared.next.Stopped.TheVariants.{Failed, Spent}
+use Rattle.mm_lines.specs.Limits.{most_taken}
 use Rattle.mm_lines.specs.Lines.{lines_of, kept, kept_lines}
 use Rattle.mm_lines.specs.Parts.{is_lf, IsFree, held, MovesTo}
 use Rattle.mm_lines.specs.State.{ReaderState}
@@ -23,7 +24,7 @@ all_of reader left = reader.ahead ++ (if reader.ended then [] else left)
 
 -- whether the source isn't asked: it has ended, a line is at hand, or no more bytes may be taken
 abbrev pub is_silent : ReaderState → Bool
-is_silent reader = reader.ended || (list_any is_lf reader.ahead || nat_le 4294967296 reader.taken)
+is_silent reader = reader.ended || (list_any is_lf reader.ahead || nat_le most_taken reader.taken)
 
 -- The first line was taken of these bytes.
 pub record TakesLine (bytes : List ℕ) (new : ReaderState) : Type 0 where
@@ -56,7 +57,7 @@ abbrev pub Finds : List ℕ → ReaderState → Result Next Stopped → ReaderSt
 Finds bytes old (Ok Line) new = TakesLine bytes new
 Finds bytes old (Ok End) new = HasEnded bytes old new
 Finds bytes old (Err Failed) new = HoldsLine bytes old new
-Finds bytes old (Err Spent) new = HoldsLine bytes old new × (new.taken ≡ 4294967296)
+Finds bytes old (Err Spent) new = HoldsLine bytes old new × (new.taken ≡ most_taken)
 
 -- Bytes were taken from the source, and of those at hand and these this was found.
 pub record Reads {S : Type 0} (src : SourceOf S) (old : ReaderState) (was : S) (result : Result Next Stopped) (new : ReaderState) (now : S) : Type 0 where

@@ -1,5 +1,6 @@
 -- What a line reader has at hand.
 use Rattle.std.specs.Prelude.{◌≡◌, ◌≤◌, ℕ, Bool, true, List, [], ◌++◌}
+use Rattle.mm_lines.specs.Limits.{most_taken}
 use Rattle.mm_lines.specs.Parts.{IsFree}
 
 -- the value of a `LineReader`
@@ -15,6 +16,6 @@ pub record ReaderState : Type 0 where
 
 -- the line that is begun has no LF, and after the end nothing is at hand
 pub record IsSound (begun chunk : List ℕ) (taken : ℕ) (ended : Bool) : Type 0 where
-  pub most : taken ≤ 4294967296
+  pub most : taken ≤ most_taken
   pub free : IsFree begun
   pub over : ended ≡ true → begun ++ chunk ≡ []

@@ -1,12 +1,14 @@
 ghost use Rattle.std.specs.Prelude.{◌≡◌, ◌<◌, ◌≤◌, [], IfOk, OnErr, IsTrue, length, drop, is_err};
 ghost use Rattle.mm_base.specs.Outside.{CountsFaults};
 ghost use Rattle.mm_base.specs.Source.{Gives, filled};
+ghost use Rattle.mm_lines.specs.Limits.{chunk_size};
 
 use mm_base::{Failed, Memory, Source};
 use std::alloc::Global;
 use std::marker::Model;
 
-const SIZE: usize = 65_536;
+// How many bytes are asked of the source at once.
+const CHUNK_SIZE: usize = 65_536;
 
 // The bytes of the last read, of which the first may be used already. It is seen as those that aren't.
 #[derive(Debug, Drop)]
@@ -18,12 +20,13 @@ pub struct Chunk {
 
 impl Model for Chunk {
     ghost use Rattle.std.specs.Prelude.{◌≡◌, ◌≤◌, List, ℕ, take, drop, vec_len};
+    ghost use Rattle.mm_lines.specs.Limits.{chunk_size};
 
     ghost Value = { List ℕ };
 
     ghost view = { λ c. drop c.from (take c.to c.bytes.items) };
 
-    ghost invariant = { λ c. (vec_len c.bytes ≡ 65536) × (c.to ≤ 65536) × (c.from ≤ c.to) };
+    ghost invariant = { λ c. (vec_len c.bytes ≡ chunk_size) × (c.to ≤ chunk_size) × (c.from ≤ c.to) };
 }
 
 impl Chunk {
@@ -31,7 +34,7 @@ impl Chunk {
         ensures { IfOk result (λ c. c ≡ []) }
     {
         Ok(Chunk {
-            bytes: vec![in alloc; 0; SIZE]?,
+            bytes: vec![in alloc; 0; CHUNK_SIZE]?,
             from: 0,
             to: 0,
         })
@@ -40,7 +43,7 @@ impl Chunk {
     // The bytes that aren't used yet.
     pub fn rest(&self) -> &[u8]
         ensures rest { result.now ≡ self.now }
-        ensures few { length result.now ≤ 65536 }
+        ensures few { length result.now ≤ chunk_size }
     {
         let (front, _) = self.bytes.split_at(self.to);
         let (_, rest) = front.split_at(self.from);
@@ -60,7 +63,7 @@ impl Chunk {
         requires { 0 < most }
         ensures count { IfOk result (λ n. n ≡ length self.new) }
         ensures within { IfOk result (λ n. n ≤ most) }
-        ensures few { length self.new ≤ 65536 }
+        ensures few { length self.new ≤ chunk_size }
         ensures err { OnErr result (self.new ≡ []) }
         ensures given { Gives S.tells S.left source.old source.new self.new }
         ensures end { IfOk result (λ n. n ≡ 0 → IsTrue (S.tells source.new) → S.left source.old ≡ []) }
@@ -68,7 +71,7 @@ impl Chunk {
     {
         self.from = 0;
         self.to = 0;
-        let room = most.min(SIZE as u64) as usize;
+        let room = most.min(CHUNK_SIZE as u64) as usize;
         let count = read_front(source, &mut self.bytes, room)?;
         self.to = count;
         Ok(count as u64)

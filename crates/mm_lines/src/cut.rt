@@ -1,17 +1,19 @@
 ghost use Rattle.std.specs.Prelude.{◌≡◌, ◌<◌, ◌≤◌, ◌+◌, [], IfSome, IfNone, length, take, drop};
+ghost use Rattle.mm_lines.specs.Limits.{chunk_size};
 ghost use Rattle.mm_lines.specs.Lines.{kept};
 ghost use Rattle.mm_lines.specs.Parts.{IsFree, Splits, MovesTo, line_of, without_cr};
 
 use crate::chunk::Chunk;
 use crate::front::Front;
 
-const KEPT: usize = 65_537;
+// How many bytes of a line are kept at most.
+const MOST_KEPT: usize = 65_537;
 
 // Moves the bytes of the chunk up to its first LF behind those of the line that is begun, or all
 // where it has none, and says whether it has one.
 pub fn move_to_lf(chunk: &mut Chunk, begun: &mut Front) -> bool
     ensures moves { MovesTo chunk.old begun.old result chunk.new begun.new }
-    ensures few { length chunk.new ≤ 65536 }
+    ensures few { length chunk.new ≤ chunk_size }
 {
     let rest = chunk.rest();
     match find_lf(rest) {
@@ -54,7 +56,7 @@ fn cut(bytes: &[u8], has_lf: bool) -> &[u8]
     ensures { result.now ≡ kept (line_of has_lf bytes.now) }
 {
     let line = line_of(bytes, has_lf);
-    let (line, _) = line.split_at(line.len().min(KEPT));
+    let (line, _) = line.split_at(line.len().min(MOST_KEPT));
     line
 }
 

@@ -5,9 +5,10 @@ use mm_base::Memory;
 use std::alloc::Global;
 use std::marker::Model;
 
-const ROOM: usize = 65_538;
+// How many bytes of a line that has not ended are held at most.
+const MOST_HELD: usize = 65_538;
 
-// The first bytes of a line, 65,538 at most. Once it is made, it takes no memory.
+// The first bytes of a line. Once it is made, it takes no memory.
 #[derive(Debug, Drop)]
 pub struct Front {
     bytes: Vec<u8>,
@@ -16,11 +17,13 @@ pub struct Front {
 impl Model for Front {
     ghost use Rattle.std.specs.Prelude.{List, ℕ, ◌≤◌, vec_len, vec_capacity};
 
+    ghost use Rattle.mm_lines.specs.Limits.{most_held};
+
     ghost Value = { List ℕ };
 
     ghost view = { λ f. f.bytes.items };
 
-    ghost invariant = { λ f. (vec_len f.bytes ≤ 65538) × (65538 ≤ vec_capacity f.bytes) };
+    ghost invariant = { λ f. (vec_len f.bytes ≤ most_held) × (most_held ≤ vec_capacity f.bytes) };
 }
 
 impl Front {
@@ -28,7 +31,7 @@ impl Front {
         ensures { IfOk result (λ f. f ≡ []) }
     {
         Ok(Front {
-            bytes: Vec::with_capacity(alloc, ROOM)?,
+            bytes: Vec::with_capacity(alloc, MOST_HELD)?,
         })
     }
 
@@ -48,7 +51,7 @@ impl Front {
     pub fn add(&mut self, piece: &[u8])
         ensures { self.new ≡ held (self.old ++ piece.now) }
     {
-        let left = ROOM - self.bytes.len();
+        let left = MOST_HELD - self.bytes.len();
         let (piece, _) = piece.split_at(piece.len().min(left));
         if self.bytes.extend_from_slice(piece).is_err() {
             unreachable!()

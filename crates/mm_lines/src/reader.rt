@@ -1,6 +1,7 @@
 ghost use Rattle.std.specs.Prelude.{◌≡◌, ◌≤◌, ◌||◌, Ok, Err, true, false, [], IfOk, IsTrue, length, nat_le};
 ghost use Rattle.std.specs.List.{list_any};
 ghost use Rattle.mm_base.specs.Outside.{CountsFaults};
+ghost use Rattle.mm_lines.specs.Limits.{chunk_size, most_taken};
 ghost use Rattle.mm_lines.specs.Lines.{lines_of};
 ghost use Rattle.mm_lines.specs.Parts.{is_lf};
 ghost use Rattle.mm_lines.specs.Reader.{Moves, Reads, LinesFollow, is_silent, all_of, has_failed, found_lf};
@@ -14,7 +15,7 @@ use std::alloc::Global;
 use std::marker::Model;
 
 // How many bytes are taken from a source at most.
-const MOST: u64 = 4_294_967_296;
+const MOST_TAKEN: u64 = 4_294_967_296;
 
 /// Reads the lines of a source, one by one.
 ///
@@ -71,8 +72,8 @@ impl LineReader {
         ensures lines { IsTrue (S.tells source.new) → LinesFollow result (lines_of (all_of self.old (S.left source.old))) self.new.line (lines_of (all_of self.new (S.left source.new))) }
         ensures over { self.old.ended ≡ true → (result ≡ Ok Next.End) × (self.new ≡ self.old) }
         ensures silent { IsTrue (is_silent self.old) → source.new ≡ source.old }
-        ensures most { self.new.taken ≤ 4294967296 }
-        ensures few { IfOk result (λ _. length self.new.ahead ≤ 65536) }
+        ensures most { self.new.taken ≤ most_taken }
+        ensures few { IfOk result (λ _. length self.new.ahead ≤ chunk_size) }
         ensures cause { CountsFaults (has_failed result) (S.faults source.old) (S.faults source.new) }
     {
         if self.ended {
@@ -99,23 +100,23 @@ fn read_line<S: Source>(
     taken: &mut u64,
     source: &mut S,
 ) -> Result<bool, Stopped>
-    requires { taken.old ≤ 4294967296 }
+    requires { taken.old ≤ most_taken }
     ensures moves { Moves ⟦<S as Source>⟧ chunk.old begun.old taken.old source.old (found_lf result) chunk.new begun.new taken.new source.new }
     ensures end { result ≡ Ok false → IsTrue (S.tells source.new) → S.left source.new ≡ [] }
-    ensures spent { result ≡ Err Stopped.Spent → taken.new ≡ 4294967296 }
-    ensures silent { IsTrue (list_any is_lf chunk.old || nat_le 4294967296 taken.old) → source.new ≡ source.old }
-    ensures most { taken.new ≤ 4294967296 }
-    ensures few { length chunk.new ≤ 65536 }
+    ensures spent { result ≡ Err Stopped.Spent → taken.new ≡ most_taken }
+    ensures silent { IsTrue (list_any is_lf chunk.old || nat_le most_taken taken.old) → source.new ≡ source.old }
+    ensures most { taken.new ≤ most_taken }
+    ensures few { length chunk.new ≤ chunk_size }
     ensures cause { CountsFaults (has_failed result) (S.faults source.old) (S.faults source.new) }
 {
     loop {
         if move_to_lf(chunk, begun) {
             return Ok(true);
         }
-        if *taken == MOST {
+        if *taken == MOST_TAKEN {
             return Err(Stopped::Spent);
         }
-        let count = chunk.fill(source, MOST - *taken)?;
+        let count = chunk.fill(source, MOST_TAKEN - *taken)?;
         if count == 0 {
             return Ok(false);
         }

@@ -5,6 +5,7 @@ use Rattle.mm_lines.specs.declared.next.Next.{Next}
 use Rattle.mm_lines.specs.declared.next.Next.TheVariants.{Line, End}
 use Rattle.mm_lines.specs.declared.next.Stopped.{Stopped}
 use Rattle.mm_lines.specs.declared.next.Stopped.TheVariants.{Spent}
+use Rattle.mm_lines.specs.Limits.{chunk_size, most_taken}
 use Rattle.mm_lines.specs.Lines.{lines_of}
 use Rattle.mm_lines.specs.Reader.{all_of}
 use Rattle.mm_lines.specs.Run.{HasRead, HasStopped}
@@ -38,8 +39,8 @@ pub record Came {S : Type 0} (src : SourceOf S) (words : List (List ℕ)) (begun
   -- the input is left alone until all words have come
   pub waits : c.next < length words → lines ≡ []
   pub untaken : lines ≡ [] → (taken ≡ []) × (c.reader ≡ no_line) × (now ≡ begun)
-  pub most : c.reader.taken ≤ 4294967296
-  pub few : length c.reader.ahead ≤ 65536
+  pub most : c.reader.taken ≤ most_taken
+  pub few : length c.reader.ahead ≤ chunk_size
 
 -- those that are to come, where this is left of the input
 abbrev pub to_come : List (List ℕ) → Commands → List ℕ → List (List ℕ)
@@ -47,7 +48,7 @@ to_come words c left = drop c.next words ++ lines_of (all_of c.reader left)
 
 -- how many words and bytes are to come at most
 abbrev pub room : Commands → ℕ
-room c = (length c.words.now - c.next) + ((4294967296 - c.reader.taken) + length c.reader.ahead)
+room c = (length c.words.now - c.next) + ((most_taken - c.reader.taken) + length c.reader.ahead)
 
 -- One more command has come.
 pub record ComesNext {S : Type 0} (src : SourceOf S) (old : Commands) (was : S) (new : Commands) (now : S) : Type 0 where
@@ -71,7 +72,7 @@ pub record ComesToStop {S : Type 0} (src : SourceOf S) (words : List (List ℕ))
   pub stops : HasStopped src begun taken used lines new.reader now
   pub told : IsTrue (src.tells now) → IsTrue (src.tells was)
   pub all : old.next ≡ length words
-  pub spent : why ≡ Spent → length taken ≡ 4294967296
+  pub spent : why ≡ Spent → length taken ≡ most_taken
 
 -- what the next command is
 abbrev pub NextIs : {S : Type 0} (src : SourceOf S) (old : Commands) (was : S) → Result Next Stopped → Commands → S → Type 0

@@ -2,6 +2,7 @@
 use Rattle.std.specs.Prelude.{◌||◌, ◌==◌, ◌+◌, ℕ, suc, zero, Bool, false, List, [], ◌∷◌, ◌++◌, Option, None, Some, if◌then◌else◌, nat_le, length, codes, slice_index_or}
 use Rattle.std.specs.List.{list_any}
 use Rattle.mm_base.specs.Files.{Map}
+use Rattle.mm_command.specs.Limits.{most_line}
 use Rattle.mm_shell.specs.Changes.{new_state}
 use Rattle.mm_shell.specs.OpenProofs.{ProofState}
 use Rattle.mm_shell.specs.declared.state.State.{State}
@@ -18,7 +19,7 @@ prompt state = prompt_by state.open_proof
 
 -- a line as it is echoed: one of more than 65,536 bytes as empty
 abbrev pub shown : List ℕ → List ℕ
-shown line = if nat_le (length line) 65536 then line else []
+shown line = if nat_le (length line) most_line then line else []
 
 -- the echo of a line
 abbrev pub echo : List ℕ → List ℕ

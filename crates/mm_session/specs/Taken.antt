@@ -2,6 +2,7 @@
 use Rattle.std.specs.Prelude.{◌≡◌, ◌+◌, ◌≤◌, ◌<◌, ◌==◌, ◌||◌, ◌&&◌, not, nat_lt, ℕ, Bool, true, IsTrue, List, [], ◌++◌, length}
 use Rattle.mm_base.specs.declared.source.Source.{Ghosts as SourceOf}
 use Rattle.mm_base.specs.Source.{Gives}
+use Rattle.mm_lines.specs.Limits.{chunk_size, most_taken}
 use Rattle.mm_lines.specs.Lines.{lines_of}
 use Rattle.mm_lines.specs.Parts.{IsFree}
 
@@ -33,7 +34,7 @@ pub record Takes {S : Type 0} (src : SourceOf S) (words : List (List ℕ)) (was 
   pub no_line_left : wants_more status exited ≡ true → (run ≡ length words + length (lines_of used)) × IsFree rest
   pub nothing_left : has_run_out status exited ≡ true → (rest ≡ []) × (IsTrue (src.tells now) → src.left now ≡ [])
   -- after the last line that was run at most 65,536 bytes were taken, and none where a word was the last command
-  pub little_more : ends_by_command status exited ≡ true → length rest ≤ 65536
+  pub little_more : ends_by_command status exited ≡ true → length rest ≤ chunk_size
   pub last_line : ends_by_command status exited ≡ true → length words < run → run ≡ length words + length (lines_of used)
   pub last_word : ends_by_command status exited ≡ true → run ≤ length words → used ++ rest ≡ []
-  pub spent : status ≡ 7 → length (used ++ rest) ≡ 4294967296
+  pub spent : status ≡ 7 → length (used ++ rest) ≡ most_taken

@@ -1,13 +1,14 @@
 ghost use Rattle.std.specs.Prelude.{◌≡◌, List, ℕ, take};
+ghost use Rattle.mm_lines.specs.Limits.{most_kept};
 ghost use Rattle.mm_step.specs.Asked.{asked_of};
 ghost use Rattle.mm_session.specs.Session.{shown};
 ghost use Rattle.mm_session.specs.Laws.{SaysAccepted, AcceptedIsSaid, RefusedChangesNothing, SessionIsSound, ReadIsWhole};
 ghost use Rattle.mm_session.specs.Saves.{DatabasesAreFromFiles, OnlySavesChange, PutsTheDatabase, SavedTheoremsHold, WrittenTheoremsHold};
 
-/// Of a line that is too long, its first 65,537 bytes are as good as all of it.
+/// Of a line that is too long, as much as a line reader keeps of it is as good as all of it.
 pub fn kept_is_enough()
-    ensures meaning { (line : List ℕ) → asked_of (take 65537 line) ≡ asked_of line }
-    ensures echo { (line : List ℕ) → shown (take 65537 line) ≡ shown line }
+    ensures meaning { (line : List ℕ) → asked_of (take most_kept line) ≡ asked_of line }
+    ensures echo { (line : List ℕ) → shown (take most_kept line) ≡ shown line }
 {}
 
 /// A command says that a proof is accepted exactly where the database that was read accepts it.

@@ -6,8 +6,9 @@ ghost use Rattle.mm_session.specs.Output.{GainsLess};
 ghost use Rattle.mm_session.specs.Session.{prompt, echo, shown};
 
 use mm_base::{Failed, ShortWrite, Sink, write_all};
+use mm_command::MOST_LINE;
 use mm_shell::State;
-use mm_step::{MAX_LINE, Reply};
+use mm_step::Reply;
 use std::alloc::Global;
 
 /// Where the transcript goes: every piece of it is said here.
@@ -95,5 +96,5 @@ fn prompt_of(state: &State) -> &'static [u8]
 fn shown(line: &[u8]) -> &[u8]
     ensures { result.now ≡ shown line.now }
 {
-    if line.len() <= MAX_LINE { line } else { &[] }
+    if line.len() <= MOST_LINE { line } else { &[] }
 }

@@ -3,6 +3,7 @@ use Rattle.std.specs.Prelude.{ℕ, nat_lt, List, length, Option, None, Some, Res
 use Rattle.mm_command.specs.declared.fault.LineFault.{LineFault}
 use Rattle.mm_command.specs.Grammar.{Said}
 use Rattle.mm_command.specs.Heard.{meaning_in}
+use Rattle.mm_command.specs.Limits.{most_line}
 use Rattle.mm_command.specs.Meanings.{Meaning, Nothing}
 use Rattle.mm_command.specs.Table.{line_said}
 
@@ -11,10 +12,6 @@ pub data Asked : Type 0 where
   TooLong : Asked
   Wrong : LineFault → Asked
   Asks : Meaning → Asked
-
--- how many bytes a line may have
-abbrev pub most_line : ℕ
-most_line = 65536
 
 -- what a line says is some command's
 abbrev pub asks : Option Meaning → Asked

@@ -11,5 +11,5 @@ pub use laws::{
     databases_come_by_reading, ends_are_silent, refused_lines_change_nothing, reports_are_true,
     saved_theorems_hold, states_stay_sound,
 };
-pub use line::{MAX_LINE, step};
+pub use line::step;
 pub use reply::Reply;

@@ -14,16 +14,13 @@ use crate::group::{Group, group_of};
 use crate::perform::call_files;
 use crate::reply::{Reply, refuse, tell};
 use mm_base::{Files, Steps};
-use mm_command::{Command, read_command};
+use mm_command::{Command, MOST_LINE, read_command};
 use mm_database_commands::plan;
 use mm_edit_commands::edit;
 use mm_proof_commands::answer;
 use mm_shell::{Change, Refusal, State, Text, apply_change};
 use std::alloc::Global;
 use std::sync::ledger::Ledger;
-
-/// How many bytes a line may have.
-pub const MAX_LINE: usize = 65_536;
 
 /// Runs one line. Its effect is that of the command that it spells; else it is refused. The state must be sound, and it
 /// stays so. The nodes that it makes are counted in `steps`.
@@ -40,7 +37,7 @@ pub fn step<F: Files, L: Ledger>(
     ensures told { IsTrue (F.tells files.new) → IsTrue (F.tells files.old) }
     ensures cause { CountsFaults (is_faulted result) (F.faults files.old) (F.faults files.new) }
 {
-    if line.len() > MAX_LINE {
+    if line.len() > MOST_LINE {
         return refuse(alloc, Refusal::LineTooLong);
     }
     match read_command(line) {

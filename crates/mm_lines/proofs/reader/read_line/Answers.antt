@@ -20,5 +20,5 @@ loop-chunk-preserved g c = record {
       c.in_ok-count.ensures.given c.in_ok-count.ensures.count refl;
   most = omega (arith, c.in_ok-count.ensures.within, c.loop-chunk.invariant.most);
   faults = c.in_ok-count.ensures.cause.stays refl ∙ c.loop-chunk.invariant.faults;
-  silent = λ s. let first = c.loop-chunk.invariant.silent s in absurd (must_ask _ _ _ _ s first.1 first.2 c.if-move_to_lf.ensures.moves.0 c.loop-chunk.invariant.most c.if-taken-eq-MOST.false);
+  silent = λ s. let first = c.loop-chunk.invariant.silent s in absurd (must_ask _ _ _ _ s first.1 first.2 c.if-move_to_lf.ensures.moves.0 c.loop-chunk.invariant.most c.if-taken-eq-MOST_TAKEN.false);
 }
