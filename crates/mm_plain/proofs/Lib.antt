@@ -27,3 +27,4 @@ pub mod LabelTrees
 pub mod Nested
 pub mod Children
 pub mod Rows
+pub mod Instances

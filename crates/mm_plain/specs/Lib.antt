@@ -11,3 +11,4 @@ pub mod Grafts
 pub mod Drawing
 pub mod LabelTrees
 pub mod Rows
+pub mod Instances

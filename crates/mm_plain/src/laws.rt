@@ -7,7 +7,8 @@ ghost use Rattle.mm_scope.specs.Contents.{labels_of};
 ghost use Rattle.mm_plain.specs.Binding.{HasWorkKeys, IsBinding, bound, bound_in, has_works};
 ghost use Rattle.mm_plain.specs.Drawing.{AreFitting, draws_by, draws_of, fresh_for, placed_fresh, with_fresh, with_fresh_in};
 ghost use Rattle.mm_plain.specs.Grafts.{HasWorksBelow, cleared, cleared_in, grafted_in, part_at, raised};
-ghost use Rattle.mm_plain.specs.LabelTrees.{MayStand, fresh_by, fresh_proof, fresh_proof_of, tree_of};
+ghost use Rattle.mm_plain.specs.Instances.{numbered, values_in};
+ghost use Rattle.mm_plain.specs.LabelTrees.{MayStand, bare, fresh_by, fresh_proof, fresh_proof_of, tree_of};
 ghost use Rattle.mm_plain.specs.Lengths.{first_long};
 ghost use Rattle.mm_plain.specs.Numbers.{HasOwnLabels, labels_in, number_in, number_of_child};
 ghost use Rattle.mm_plain.specs.Shape.{Proof, depth_at, depths_of, known, placed, put, size_of, height_of, step_at, steps_of, target_of};
@@ -16,6 +17,7 @@ ghost use Rattle.mm_plain.specs.Rows.{fresh_rows, rows_of, with_rows};
 ghost use Rattle.mm_plain.specs.Premises.{may_stand, premises_of, variables_for};
 ghost use Rattle.mm_plain.specs.Valid.{Fits, IsString, IsValid, Setting, first_setting, most_levels, most_steps, most_works, placed_in, setting_of};
 ghost use Rattle.mm_subst.specs.Substitutions.{Pairs, applied, then_by};
+ghost use Rattle.mm_subst.specs.Symbols.{has_work};
 ghost use Rattle.mm_subst.specs.declared.symbol.WSym.{WSym};
 ghost use Rattle.mm_plain.specs.declared.plain.Plain.{Plain};
 
@@ -104,6 +106,7 @@ pub fn fresh_work_variables_fit(bytes: &[u8])
 /// tree. It is valid for a goal without work variables, where each label may stand in the proof, and it isn't too large.
 pub fn labels_begin_valid_proofs(bytes: &[u8])
     ensures labels { (goal : List WSym) (labels : List (Option ℕ)) (p : Proof) → fresh_proof_of bytes.now goal labels ≡ Some p → labels_in p.plain ≡ labels }
+    ensures tree { (at : ℕ) (x : Plain) → AreFitting bytes.now at x → tree_of bytes.now (labels_in x) ≡ Some (bare x) }
     ensures own { (at : ℕ) (goal : List WSym) (x : Plain) → AreFitting bytes.now at x → fresh_proof_of bytes.now goal (labels_in x) ≡ Some (fresh_proof bytes.now goal x) }
     ensures size { (goal : List WSym) (labels : List (Option ℕ)) (p : Proof) → fresh_proof_of bytes.now goal labels ≡ Some p → size_of p.plain ≡ length labels }
     ensures height { (goal : List WSym) (labels : List (Option ℕ)) (x : Plain) (p : Proof) → tree_of bytes.now labels ≡ Some x → fresh_proof_of bytes.now goal labels ≡ Some p → height_of p.plain ≡ height_of x }
@@ -128,6 +131,15 @@ pub fn parts_are_nested()
     ensures run { (x : Plain) (k : ℕ) → 1 ≤ k → k ≤ size_of x → labels_in (step_at x k) ≡ take (size_of (step_at x k)) (drop (k - size_of (step_at x k)) (labels_in x)) }
     ensures labels { (new x : Plain) (k : ℕ) → 1 ≤ k → k ≤ size_of x → labels_in (put x k new) ≡ take (k - size_of (step_at x k)) (labels_in x) ++ (labels_in new ++ drop k (labels_in x)) }
 {}
+
+/// A valid proof of a goal without work variables is what one substitution makes of the proof that its labels begin: the
+/// one by which the values of its steps stand, in postorder, for the work variables from 1 on.
+pub fn valid_proofs_are_instances(bytes: &[u8])
+    ensures instance { (at : ℕ) (goal : List WSym) (p : Proof) → IsValid bytes.now at goal p → has_work goal ≡ false → bound (numbered 1 (values_in p.plain)) (fresh_proof bytes.now goal p.plain).plain ≡ p.plain }
+    ensures counted { (at : ℕ) (goal : List WSym) (p : Proof) → IsValid bytes.now at goal p → length (values_in p.plain) ≡ draws_of bytes.now p.plain }
+{
+    let _ = bytes;
+}
 
 /// A tree whose steps fit is made of its rows, one after another: each takes the last trees that stand. With fresh work
 /// variables its rows follow, from the last to the first, from its labels, a target and the number of the next work variable
