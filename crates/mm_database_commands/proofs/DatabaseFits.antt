@@ -1,5 +1,6 @@
 -- The plans of the commands on the database fit a sound state.
-use Rattle.std.proofs.Common.{◌≡◌, ℕ, Bool, true, false, is_ok, is_some, List, [], ◌∷◌, Option, None, Some, Result, Ok, Err, refl, sym, ◌∙◌, ap, subst}
+use Rattle.std.proofs.Common.{◌≡◌, ℕ, Bool, true, false, is_ok, is_some, List, [], ◌∷◌, All, Option, None, Some, Result, Ok, Err, refl, sym, ◌∙◌, ap, subst}
+use Rattle.std.specs.List.{list_any}
 use Rattle.mm_base.specs.Files.{Map}
 use Rattle.mm_scope.specs.Contents.{is_read}
 use Rattle.mm_scope.specs.Databases.{database_of as contents_of}
@@ -15,11 +16,11 @@ use Rattle.mm_shell.specs.declared.state.State.{State}
 use Rattle.mm_shell.specs.declared.refusal.Refusal.{Refusal}
 use Rattle.mm_shell.specs.declared.refusal.Refusal.TheVariants.{AlreadyRead, BadDatabase, NoDatabase, NoFile, NotBuilt, NotBuiltHere, ProofOpen}
 use Rattle.mm_shell.specs.declared.report.Report.TheVariants.{Verified}
-use Rattle.mm_stack.specs.Accepting.{verdict_of}
 use Rattle.mm_stack.specs.Decoding.{is_compressed}
-use Rattle.mm_shell.proofs.FindLemmas.{IsNamed, found_is, theorem_found}
+use Rattle.mm_shell.proofs.FindLemmas.{found_is}
 use Rattle.mm_shell.proofs.FitLemmas.{rows_fit, given_fits, done_fits, rows_plan, given_plan, answer_plan}
-use Rattle.mm_database_commands.specs.Commands.{loaded, read, verify, write, database_plan}
+use Rattle.mm_database_commands.specs.Commands.{IsTheorem, checked, loaded, read, verify, write, database_plan}
+use Rattle.mm_database_commands.proofs.VerifyLemmas.{all_checked, meant_theorems}
 
 -- ## READ
 
@@ -45,16 +46,16 @@ read_fits s name = at s.open_proof refl s.database refl where
 
 -- ## VERIFY PROOF
 
-verdict_fits : (s : State) (bytes label : List ℕ) (id : ℕ) → s.database ≡ Some bytes → IsNamed bytes label id → (compressed : Bool) → is_compressed bytes id ≡ compressed
-    → Fits Nowhere s (unless ((compressed, NotBuiltHere) ∷ []) (reports (Verified bytes label (verdict_of bytes id))))
+checks_fit : (s : State) (bytes : List ℕ) (ids : List ℕ) → s.database ≡ Some bytes → All (IsTheorem bytes) ids → (compressed : Bool) → list_any (is_compressed bytes) ids ≡ compressed
+    → Fits Nowhere s (unless ((compressed, NotBuiltHere) ∷ []) (reports (Verified bytes (checked bytes ids))))
 unfolding Fits unless
-verdict_fits s bytes label id here named true e = tt
-verdict_fits s bytes label id here named false e = (tt, tt, record { here = here; id = id; found = named.found; theorem = named.theorem; normal = e; is = refl })
+checks_fit s bytes ids here all true e = tt
+checks_fit s bytes ids here all false e = (tt, tt, record { here = here; each = all_checked bytes ids all e })
 
-verify_fits : (s : State) (label : List ℕ) → Fits Nowhere s (verify s label)
-verify_fits s label =
-    rows_fit Nowhere s _ _ (given_fits Nowhere s _ _ (λ bytes is. given_fits Nowhere s _ _ (λ id found.
-    verdict_fits s bytes label id (found_is s.database NoDatabase bytes is) (theorem_found bytes label id found) (is_compressed bytes id) refl)))
+verify_fits : (s : State) (word : List ℕ) → Fits Nowhere s (verify s word)
+verify_fits s word =
+    given_fits Nowhere s _ _ (λ bytes is. given_fits Nowhere s _ _ (λ ids found.
+    checks_fit s bytes ids (found_is s.database NoDatabase bytes is) (meant_theorems bytes word ids found) (list_any (is_compressed bytes) ids) refl))
 
 -- ## WRITE SOURCE
 

@@ -1,8 +1,8 @@
 -- What each command on the database means: its refusals in order, and then what it does.
-use Rattle.std.specs.Prelude.{◌≡◌, ◌||◌, ◌==◌, IsTrue, is_some, ℕ, Bool, true, false, List, [], ◌∷◌, length, Option, Some, None, Result, Ok, Err}
-use Rattle.std.specs.List.{list_any}
+use Rattle.std.specs.Prelude.{◌≡◌, ◌<◌, ◌||◌, ◌&&◌, ◌==◌, IsTrue, is_some, ℕ, Bool, true, false, List, [], ◌∷◌, length, map, filter, Option, Some, None, Result, Ok, Err, if◌then◌else◌}
+use Rattle.std.specs.List.{list_any, range_with_len}
 use Rattle.mm_base.specs.Name.{is_name_lem}
-use Rattle.mm_scope.specs.Contents.{count_kind, labels_of}
+use Rattle.mm_scope.specs.Contents.{count_kind, labels_of, stated_at}
 use Rattle.mm_scope.specs.Databases.{database_of as contents_of}
 use Rattle.mm_scope.specs.Events.{Event}
 use Rattle.mm_scope.specs.declared.fault.ReadFault.{ReadFault}
@@ -10,11 +10,17 @@ use Rattle.mm_scope.specs.declared.fault.ReadFault.TheVariants.{Memory}
 use Rattle.mm_stated.specs.declared.statement.Kind.TheVariants.{Axiom, Theorem}
 use Rattle.mm_stack.specs.Accepting.{verdict_of}
 use Rattle.mm_stack.specs.Decoding.{is_compressed}
+use Rattle.mm_stack.specs.declared.outcome.VerifyFault.{VerifyFault}
+use Rattle.mm_stack.specs.declared.outcome.VerifyFault.TheVariants as fault
+use Rattle.mm_stack.specs.declared.outcome.VerifyFault.TheVariants.{Compressed}
+use Rattle.mm_plain.specs.Labels.{label_at}
+use Rattle.mm_trace.specs.Patterns.{matches}
 use Rattle.mm_command.specs.Meanings as meaning
 use Rattle.mm_command.specs.Meanings.{Meaning}
 use Rattle.mm_shell.specs.Actions.{Action, Does, Fetches, Puts, Plan, plan_takes, without_files}
 use Rattle.mm_shell.specs.Answers.{Answer, unless, given, found_or, or_refusal, reports}
-use Rattle.mm_shell.specs.Finding.{database_of, theorem_named}
+use Rattle.mm_shell.specs.Finding.{database_of, is_theorem, theorem_named}
+use Rattle.mm_shell.specs.declared.checks.Check.{Check}
 use Rattle.mm_shell.specs.declared.state.State.{State}
 use Rattle.mm_shell.specs.declared.answer.Change.TheVariants.{Loads, Writes}
 use Rattle.mm_shell.specs.declared.answer.Done.{Done}
@@ -54,13 +60,31 @@ is_pattern_byte b = b == 42 || (b == 63 || b == 44)
 abbrev pub is_pattern : List ℕ → Bool
 is_pattern word = list_any is_pattern_byte word
 
+-- whether a statement is a theorem whose label a pattern matches
+abbrev pub is_meant : List ℕ → List ℕ → ℕ → Bool
+is_meant bytes pattern id = is_theorem (stated_at bytes id).kind && matches pattern (label_at bytes id)
+
+-- those theorems, in order
+abbrev pub theorems_matched : List ℕ → List ℕ → List ℕ
+theorems_matched bytes pattern = filter (is_meant bytes pattern) (range_with_len 0 (length (labels_of bytes)))
+
+-- the theorems that a word means: those that a pattern matches, or the one with a label
+abbrev pub theorems_meant : List ℕ → List ℕ → Result (List ℕ) Refusal
+theorems_meant bytes word = if is_pattern word then Ok (theorems_matched bytes word) else given (theorem_named bytes word) (λ id. Ok (id ∷ []))
+
+abbrev pub check_of : List ℕ → ℕ → Check
+check_of bytes id = record { theorem = record { 0 = id }; verdict = verdict_of bytes id }
+
+-- what becomes of the proofs of theorems
+abbrev pub checked : List ℕ → List ℕ → List Check
+checked bytes ids = map (check_of bytes) ids
+
 abbrev pub verify : State → List ℕ → Answer
-verify s label =
-    unless ((is_pattern label, NotBuilt) ∷ [])
-    (given (database_of s) (λ bytes.
-    given (theorem_named bytes label) (λ id.
-    unless ((is_compressed bytes id, NotBuiltHere) ∷ [])
-    (reports (Verified bytes label (verdict_of bytes id))))))
+verify s word =
+    given (database_of s) (λ bytes.
+    given (theorems_meant bytes word) (λ ids.
+    unless ((list_any (is_compressed bytes) ids, NotBuiltHere) ∷ [])
+    (reports (Verified bytes (checked bytes ids)))))
 
 -- ## WRITE SOURCE
 
@@ -90,6 +114,17 @@ abbrev pub action_of : Call → Action
 action_of (call.Does done) = Does done
 action_of (call.Loads name) = Fetches name (loaded name)
 action_of (call.Puts name bytes report) = Puts name bytes (writing report)
+
+-- numbers of theorems of a database
+pub record IsTheorem (bytes : List ℕ) (id : ℕ) : Type 0 where
+  pub own : id < length (labels_of bytes)
+  pub kind : (stated_at bytes id).kind ≡ Theorem
+
+-- The proofs of theorems are checked, and none is compressed; or one is. Nothing is said out of memory.
+abbrev pub AreChecked : List ℕ → List ℕ → Result (List Check) VerifyFault → Type 0
+AreChecked bytes ids (Ok checks) = (list_any (is_compressed bytes) ids ≡ false) × (checks ≡ checked bytes ids)
+AreChecked bytes ids (Err Compressed) = list_any (is_compressed bytes) ids ≡ true
+AreChecked bytes ids (Err fault.Memory) = Unit {0}
 
 -- A result is this plan; memory may run out where the plan takes some.
 abbrev pub Plans : Plan → Result Call Refusal → Type 0

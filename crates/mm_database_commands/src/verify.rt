@@ -1,26 +1,27 @@
-ghost use Rattle.std.specs.Prelude.{◌≡◌};
-ghost use Rattle.mm_shell.specs.Answers.{Answers};
-ghost use Rattle.mm_database_commands.specs.Commands.{is_pattern, verify};
+ghost use Rattle.std.specs.Prelude.{◌≡◌, ◌<◌, All, IfOk, length};
+ghost use Rattle.mm_scope.specs.Contents.{labels_of};
+ghost use Rattle.mm_shell.specs.Answers.{Answers, Gives, seen};
+ghost use Rattle.mm_database_commands.specs.Commands.{AreChecked, IsTheorem, is_meant, is_pattern, theorems_matched, theorems_meant, verify};
 
+use mm_scope::{Database, Kind, StmtId};
 use mm_shell::{
-    Change, DatabaseRef, Done, Refusal, Report, State, Word, find_database, find_theorem,
+    Change, Check, Checks, DatabaseRef, Done, Refusal, Report, State, find_database, find_theorem,
+    label_of,
 };
 use mm_stack::VerifyFault;
-use std::alloc::Global;
+use mm_trace::matches;
+use std::alloc::{AllocError as Memory, Global};
 
-/// Verifies the proof of one theorem.
+/// Verifies the proofs of the theorems that a word means.
 #[tactic(auto, unfolding(mm_shell::specs::Answers::unless, mm_shell::specs::Answers::given))]
-pub fn verify<'a>(alloc: Global, state: &'a State, label: &'a [u8]) -> Result<Done<'a>, Refusal<'a>>
-    ensures { Answers (verify state.now label.now) result }
+pub fn verify<'a>(alloc: Global, state: &'a State, word: &'a [u8]) -> Result<Done<'a>, Refusal<'a>>
+    ensures { Answers (verify state.now word.now) result }
 {
-    if is_pattern(label) {
-        return Err(Refusal::NotBuilt);
-    }
     let database = find_database(state)?;
-    let id = find_theorem(database, label)?;
-    match mm_stack::verify(alloc, database, id) {
-        Ok(verdict) => Ok(Done {
-            report: Report::Verified(DatabaseRef::new(database), Word::new(label), verdict),
+    let theorems = theorems_meant(alloc, database, word)?;
+    match check_all(alloc, database, theorems.as_slice()) {
+        Ok(checks) => Ok(Done {
+            report: Report::Verified(DatabaseRef::new(database), checks),
             change: Change::Stays,
         }),
         Err(VerifyFault::Compressed) => Err(Refusal::NotBuiltHere),
@@ -28,9 +29,67 @@ pub fn verify<'a>(alloc: Global, state: &'a State, label: &'a [u8]) -> Result<Do
     }
 }
 
+// The theorems that a word means: those that a pattern matches, or the one with a label.
+#[tactic(auto, unfolding(mm_shell::specs::Answers::given))]
+fn theorems_meant<'a>(
+    alloc: Global,
+    database: &Database,
+    word: &'a [u8],
+) -> Result<Vec<u32>, Refusal<'a>>
+    ensures is { Gives (theorems_meant database.now word.now) (seen (λ v. v.items) result) }
+    ensures theorems { IfOk result (λ v. All (IsTheorem database.now) v.items) }
+{
+    if is_pattern(word) {
+        return Ok(theorems_matched(alloc, database, word)?);
+    }
+    let theorem = find_theorem(database, word)?;
+    let mut theorems = Vec::new(alloc);
+    theorems.push(theorem.0)?;
+    Ok(theorems)
+}
+
 // Whether a word may stand for several labels.
 fn is_pattern(word: &[u8]) -> bool
     ensures { result ≡ is_pattern word.now }
 {
     word.iter().any(|b| *b == b'*' || *b == b'?' || *b == b',')
+}
+
+// The theorems whose labels a pattern matches, in order.
+fn theorems_matched(alloc: Global, database: &Database, pattern: &[u8]) -> Result<Vec<u32>, Memory>
+    ensures is { IfOk result (λ v. v.items ≡ theorems_matched database.now pattern.now) }
+    ensures theorems { IfOk result (λ v. All (IsTheorem database.now) v.items) }
+{
+    let mut theorems = Vec::new(alloc);
+    for id in 0..database.count() {
+        if is_meant(database, StmtId(id), pattern) {
+            theorems.push(id)?;
+        }
+    }
+    Ok(theorems)
+}
+
+// Whether a statement is a theorem whose label a pattern matches.
+fn is_meant(database: &Database, id: StmtId, pattern: &[u8]) -> bool
+    requires { id.0 < length (labels_of database.now) }
+    ensures { result ≡ is_meant database.now pattern.now id.0 }
+{
+    match database.kind(id) {
+        Kind::Theorem => matches(pattern, label_of(database, id)),
+        _ => false,
+    }
+}
+
+// What becomes of the proofs of theorems.
+fn check_all(alloc: Global, database: &Database, theorems: &[u32]) -> Result<Checks, VerifyFault>
+    requires { All (IsTheorem database.now) theorems.now }
+    ensures { AreChecked database.now theorems.now result }
+{
+    let mut checks = Checks::new(alloc);
+    for id in theorems {
+        let theorem = StmtId(*id);
+        let verdict = mm_stack::verify(alloc, database, theorem)?;
+        checks.push(Check { theorem, verdict })?;
+    }
+    Ok(checks)
 }

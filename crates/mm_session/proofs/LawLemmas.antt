@@ -1,6 +1,9 @@
 -- What the answers of the session machine mean.
-use Rattle.std.proofs.Common.{◌≡◌, ℕ, Bool, true, false, is_some, is_ok, is_err, not, List, [], ◌∷◌, Option, Some, None, Result, Ok, Err, refl, sym, ◌∙◌, ap, subst}
+use Rattle.std.proofs.Common.{◌≡◌, ℕ, Bool, true, false, is_some, is_ok, is_err, not, List, [], ◌∷◌, Option, Some, None, Result, Ok, Err, refl, sym, ◌∙◌, ap, subst, ◌||◌, if◌then◌else◌}
+use Rattle.std.specs.List.{list_any}
+use Rattle.std.proofs.lemmas.List.Elements.{All-contains}
 use Rattle.mm_base.specs.Files.{Map}
+use Rattle.mm_plain.proofs.Labels.{has_label}
 use Rattle.mm_scope.specs.Contents.{is_read, find_label, stated_at}
 use Rattle.mm_scope.specs.Databases.{database_of as contents_of}
 use Rattle.mm_scope.specs.Events.{Event}
@@ -15,7 +18,7 @@ use Rattle.mm_command.specs.Meanings.{Read, VerifyProof}
 use Rattle.mm_shell.specs.Actions.{Fetches, Plan, answer_in, without_files}
 use Rattle.mm_shell.specs.Answers.{Answer, unless, given, found_or, or_refusal, reports}
 use Rattle.mm_shell.specs.Changes.{state_after}
-use Rattle.mm_shell.specs.Fitting.{IsVerdict}
+use Rattle.mm_shell.specs.Fitting.{AreChecked, IsChecked}
 use Rattle.mm_shell.specs.OpenProofs.{ProofState}
 use Rattle.mm_shell.specs.declared.answer.Change.{Change}
 use Rattle.mm_shell.specs.declared.state.State.{State}
@@ -23,43 +26,45 @@ use Rattle.mm_shell.specs.declared.report.Report.TheVariants.{Verified}
 use Rattle.mm_shell.specs.declared.refusal.Refusal.{Refusal}
 use Rattle.mm_shell.specs.declared.refusal.Refusal.TheVariants.{AlreadyRead, BadDatabase, NoDatabase, NoFile, NoStatement, NotBuilt, NotBuiltHere, NotTheorem, ProofOpen}
 use Rattle.mm_shell.specs.Finding.{is_theorem, theorem_named}
-use Rattle.mm_database_commands.specs.Commands.{database_plan, is_pattern, loaded, loading, verify}
+use Rattle.mm_database_commands.specs.Commands.{checked, database_plan, is_pattern, loaded, loading, theorems_matched, theorems_meant, verify}
 use Rattle.mm_step.specs.Asked.{Asked, Asks, asked_of}
 use Rattle.mm_step.specs.Effects.{asked_effect, command_plan, step_of}
 use Rattle.mm_step.proofs.LawLemmas.{reports_hold}
 use Rattle.mm_session.specs.Session.{Turn, turn}
-use Rattle.mm_session.specs.Laws.{SaysAccepted, AcceptedIsSaid, ReadIsWhole}
+use Rattle.mm_session.specs.Laws.{accepted_check, SaysAccepted, AcceptedIsSaid, ReadIsWhole}
 use Rattle.mm_session.proofs.SoundLemmas.{session_is_sound, database_is_sound}
 
 -- ## What is reported of proofs
 
 pub says_accepted : SaysAccepted
 unfolding step_of
-says_accepted s n bytes label change e =
+says_accepted s n bytes checks change check e among accepted =
     let t : Turn = turn s n in
-    let v : IsVerdict t.machine.state.database bytes label Accepted = reports_hold (asked_of t.line) t.machine.state t.map (record { report = Verified bytes label Accepted; change = change }) (session_is_sound s n) e in
-    (v.here, record { id = v.id; read = database_is_sound s n bytes v.here; found = v.found; theorem = v.theorem; normal = v.normal; accepted = sym v.is })
+    let v : AreChecked t.machine.state.database bytes checks = reports_hold (asked_of t.line) t.machine.state t.map (record { report = Verified bytes checks; change = change }) (session_is_sound s n) e in
+    let c : IsChecked bytes check = All-contains (IsChecked bytes) checks check v.each among in
+    (v.here, record { id = check.theorem.0; read = database_is_sound s n bytes v.here; found = (has_label bytes check.theorem.0 c.own).found; theorem = c.theorem; normal = c.normal; accepted = sym c.is ∙ accepted })
 
 -- the answer to VERIFY PROOF, where the label's theorem is accepted
-verify_says : (s : State) (bytes label : List ℕ) → is_pattern label ≡ false → s.database ≡ Some bytes → Accepts bytes label → verify s label ≡ reports (Verified bytes label Accepted)
+verify_says : (s : State) (bytes label : List ℕ) → is_pattern label ≡ false → s.database ≡ Some bytes → (a : Accepts bytes label) → verify s label ≡ reports (Verified bytes (accepted_check a.id ∷ []))
 unfolding unless given
 verify_says s bytes label plain here a =
-    let compressed : List ℕ → ℕ → Answer = λ b id. unless ((is_compressed b id, NotBuiltHere) ∷ []) (reports (Verified b label (verdict_of b id))) in
-    let named : List ℕ → Option ℕ → Answer = λ b found. given (given (found_or found (NoStatement label)) (λ id. unless ((not (is_theorem (stated_at b id).kind), NotTheorem label) ∷ []) (Ok id))) (compressed b) in
-    ap (λ (p : Bool). unless ((p, NotBuilt) ∷ []) (given (found_or s.database NoDatabase) (λ b. given (theorem_named b label) (compressed b)))) plain
-    ∙ (ap (λ (d : Option (List ℕ)). given (found_or d NoDatabase) (λ b. given (theorem_named b label) (compressed b))) here
+    let say : List ℕ → List ℕ → Answer = λ b ids. unless ((list_any (is_compressed b) ids, NotBuiltHere) ∷ []) (reports (Verified b (checked b ids))) in
+    let alone : ℕ → Result (List ℕ) Refusal = λ id. Ok (id ∷ []) in
+    let named : List ℕ → Option ℕ → Answer = λ b found. given (given (given (found_or found (NoStatement label)) (λ id. unless ((not (is_theorem (stated_at b id).kind), NotTheorem label) ∷ []) (Ok id))) alone) (say b) in
+    ap (λ (d : Option (List ℕ)). given (found_or d NoDatabase) (λ b. given (theorems_meant b label) (say b))) here
+    ∙ (ap (λ (p : Bool). given (if p then Ok (theorems_matched bytes label) else given (theorem_named bytes label) alone) (say bytes)) plain
     ∙ (ap (named bytes) a.found
-    ∙ (ap (λ (k : Kind). given (unless ((not (is_theorem k), NotTheorem label) ∷ []) (Ok a.id)) (compressed bytes)) a.theorem
-    ∙ (ap (λ (c : Bool). unless ((c, NotBuiltHere) ∷ []) (reports (Verified bytes label (verdict_of bytes a.id)))) a.normal
-    ∙ ap (λ (v : Verdict). reports (Verified bytes label v)) a.accepted))))
+    ∙ (ap (λ (k : Kind). given (given (unless ((not (is_theorem k), NotTheorem label) ∷ []) (Ok a.id)) alone) (say bytes)) a.theorem
+    ∙ (ap (λ (c : Bool). unless ((c || false, NotBuiltHere) ∷ []) (reports (Verified bytes (checked bytes (a.id ∷ []))))) a.normal
+    ∙ ap (λ (v : Verdict). reports (Verified bytes (record { theorem = record { 0 = a.id }; verdict = v } ∷ []))) a.accepted))))
 
 -- the answer of what leaves the files alone
 apart_says : (a : Answer) (map : Map) → answer_in (without_files a) map ≡ a
 apart_says (Ok done) map = refl
 apart_says (Err r) map = refl
 
-asked_says : (asked : Asked) (s : State) (map : Map) (bytes label : List ℕ) → asked ≡ Asks (VerifyProof label) → is_pattern label ≡ false → s.database ≡ Some bytes → Accepts bytes label
-    → (asked_effect asked s map).answer ≡ reports (Verified bytes label Accepted)
+asked_says : (asked : Asked) (s : State) (map : Map) (bytes label : List ℕ) → asked ≡ Asks (VerifyProof label) → is_pattern label ≡ false → s.database ≡ Some bytes → (a : Accepts bytes label)
+    → (asked_effect asked s map).answer ≡ reports (Verified bytes (accepted_check a.id ∷ []))
 unfolding command_plan database_plan
 asked_says asked s map bytes label is plain here a =
     ap (λ (x : Asked). (asked_effect x s map).answer) is ∙ (apart_says (verify s label) map ∙ verify_says s bytes label plain here a)

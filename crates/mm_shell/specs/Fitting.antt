@@ -1,8 +1,8 @@
 -- Answers that fit a state, which is all that the laws ask of a command; and the laws.
-use Rattle.std.specs.Prelude.{◌≡◌, ℕ, Bool, true, false, List, [], Option, None, Some, Ok, Err}
+use Rattle.std.specs.Prelude.{◌≡◌, ◌<◌, ℕ, Bool, true, false, List, [], length, All, Option, None, Some, Ok, Err}
 use Rattle.mm_shell.specs.Texts.{text_of as answer_text}
 use Rattle.mm_base.specs.Files.{Map}
-use Rattle.mm_scope.specs.Contents.{find_label, is_read, stated_at}
+use Rattle.mm_scope.specs.Contents.{is_read, labels_of, stated_at}
 use Rattle.mm_stack.specs.Decoding.{is_compressed, proof_of}
 use Rattle.mm_splice.specs.Agreeing.{CanBeMade}
 use Rattle.mm_splice.specs.Keeping.{KeepsTheRest}
@@ -23,7 +23,7 @@ use Rattle.mm_shell.specs.declared.report.Report.{Report}
 use Rattle.mm_shell.specs.declared.report.Report.TheVariants.{Nothing, Verified}
 use Rattle.mm_stated.specs.declared.statement.Kind.TheVariants.{Theorem}
 use Rattle.mm_stack.specs.Accepting.{verdict_of}
-use Rattle.mm_stack.specs.declared.outcome.Verdict.{Verdict}
+use Rattle.mm_shell.specs.declared.checks.Check.{Check}
 
 -- ## What fits
 
@@ -60,18 +60,21 @@ abbrev pub IsSilentEnd : Change → Report → Type 0
 IsSilentEnd Ends report = report ≡ Nothing
 IsSilentEnd change report = Unit {0}
 
--- what is told of the proof of the theorem with a label is what comes of it in the database
-pub record IsVerdict (database : Option (List ℕ)) (bytes label : List ℕ) (verdict : Verdict) : Type 0 where
+-- what is told of the proof of a theorem of a database is what comes of it
+pub record IsChecked (bytes : List ℕ) (check : Check) : Type 0 where
+  pub own : check.theorem.0 < length (labels_of bytes)
+  pub theorem : (stated_at bytes check.theorem.0).kind ≡ Theorem
+  pub normal : is_compressed bytes check.theorem.0 ≡ false
+  pub is : check.verdict ≡ verdict_of bytes check.theorem.0
+
+-- the proofs that are told of are those of the database
+pub record AreChecked (database : Option (List ℕ)) (bytes : List ℕ) (checks : List Check) : Type 0 where
   pub here : database ≡ Some bytes
-  pub id : ℕ
-  pub found : find_label bytes label ≡ Some id
-  pub theorem : (stated_at bytes id).kind ≡ Theorem
-  pub normal : is_compressed bytes id ≡ false
-  pub is : verdict ≡ verdict_of bytes id
+  pub each : All (IsChecked bytes) checks
 
 -- what is reported holds
 abbrev pub Holding : State → Report → Type 0
-Holding s (Verified bytes label verdict) = IsVerdict s.database bytes label verdict
+Holding s (Verified bytes checks) = AreChecked s.database bytes checks
 Holding s report = Unit {0}
 
 unfoldable pub Fits : Origin → State → Answer → Type 0

@@ -6,7 +6,7 @@ use Rattle.mm_scope.specs.Faults.{number_of, place_of}
 use Rattle.mm_scope.specs.declared.fault.ReadFault.{ReadFault}
 use Rattle.mm_shell.specs.Answers.{Answer}
 use Rattle.mm_shell.specs.Lines.{line_of, numbered}
-use Rattle.mm_shell.specs.Verdicts.{verdict_text}
+use Rattle.mm_shell.specs.Verdicts.{checks_text}
 use Rattle.mm_shell.specs.declared.refusal.Refusal.{Refusal}
 use Rattle.mm_shell.specs.declared.refusal.Refusal.TheVariants.{WrongWord, LineTooLong, NoDatabase, AlreadyRead, NoFile, BadDatabase, NoStatement, NotTheorem, Guarded, ProofOpen, NoProofOpen, TooManySteps, TooDeep, NoStep, NotEarlier, NotActive, NoMatch, TooLong, NotUnified, ProofNotSaved, NotWritten, FileFault, OutOfMemory, NotBuilt, NotBuiltHere, NeedsWork}
 use Rattle.mm_shell.specs.declared.report.Report.{Report}
@@ -76,7 +76,7 @@ saved_text label some_unknown steps = codes "Saved " ++ (label ++ (state_word so
 abbrev pub report_text : Report → List ℕ
 report_text Nothing = []
 report_text (Loaded labelled axioms theorems) = loaded_text labelled axioms theorems
-report_text (Verified bytes label verdict) = verdict_text bytes label verdict
+report_text (Verified bytes checks) = checks_text bytes checks
 report_text (Wrote name) = wrote_text name
 report_text (Counts steps unknown pending) = counts_text steps unknown pending
 report_text (Saved label some_unknown steps) = saved_text label some_unknown steps

@@ -3,6 +3,7 @@
 
 mod answer;
 mod apply;
+mod checks;
 mod find;
 mod laws;
 mod open_proof;
@@ -17,6 +18,7 @@ mod word;
 
 pub use answer::{Change, Done, Saving};
 pub use apply::apply_change;
+pub use checks::{Check, Checks};
 pub use find::{
     find_database, find_proof, find_statement, find_theorem, is_closed, is_forbidden, label_of,
 };

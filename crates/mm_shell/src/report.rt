@@ -1,5 +1,5 @@
+use crate::checks::Checks;
 use crate::word::{DatabaseRef, Word};
-use mm_stack::Verdict;
 
 /// What a command that isn't refused reports.
 #[derive(Drop)]
@@ -7,8 +7,8 @@ pub enum Report<'a> {
     Nothing,
     /// A database was read: how many labelled statements, axioms and theorems it has.
     Loaded(u32, u32, u32),
-    /// What became of the proof of the database's theorem with this label.
-    Verified(DatabaseRef<'a>, Word<'a>, Verdict),
+    /// What became of the proofs of theorems of the database.
+    Verified(DatabaseRef<'a>, Checks),
     /// The database was written into the file of this name.
     Wrote(Word<'a>),
     /// How many steps the open proof has, and how many of them are unknown and pending.

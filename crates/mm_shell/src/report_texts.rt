@@ -6,7 +6,7 @@ ghost use Rattle.mm_shell.specs.Texts.{loaded_text, report_text, saved_text, sta
 
 use crate::report::Report;
 use crate::text::Text;
-use crate::verdict::verdict_text;
+use crate::verdict::checks_text;
 use crate::word::Word;
 use itoa::Buffer;
 use mm_base::Memory;
@@ -20,12 +20,9 @@ pub fn report_text(alloc: Global, report: &Report<'_>) -> Result<Text, Memory>
     match report {
         Report::Nothing => Ok(Text::fixed(alloc, b"")),
         Report::Loaded(labelled, axioms, theorems) => loaded(alloc, *labelled, *axioms, *theorems),
-        Report::Verified(database, label, verdict) => verdict_text(
-            alloc,
-            database.database(),
-            label.bytes(),
-            *verdict,
-        ),
+        Report::Verified(database, checks) => {
+            checks_text(alloc, database.database(), checks.as_slice())
+        }
         Report::Wrote(name) => wrote(alloc, name),
         Report::Counts(steps, unknown, pending) => Ok(Text::counts(
             alloc, *steps, *unknown, *pending,

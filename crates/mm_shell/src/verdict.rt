@@ -1,22 +1,28 @@
-//! What VERIFY PROOF says of a theorem.
+//! What VERIFY PROOF says of theorems.
 
-ghost use Rattle.std.specs.Prelude.{◌≡◌, ◌++◌, ◌+◌, ◌<◌, ◌^◌, IfOk, OnOk};
-ghost use Rattle.mm_shell.specs.Lines.{line_of};
-ghost use Rattle.mm_shell.specs.Verdicts.{checked_text, at_step, symbol_text, with_pair, fault_text, verdict_text};
+ghost use Rattle.std.specs.Prelude.{◌≡◌, ◌++◌, IfOk, OnOk, count_by};
+ghost use Rattle.mm_plain.specs.Labels.{label_at};
+ghost use Rattle.mm_shell.specs.Verdicts.{checked_text, at_step, symbol_text, with_pair, fault_text, check_line, checks_text, is_accepted, is_faulty, is_incomplete, last_line};
 
+use crate::checks::Check;
+use crate::find::label_of;
 use crate::text::Text;
 use mm_base::Memory;
-use mm_scope::{Database, Sym};
+use mm_scope::{Database, StmtId, Sym};
 use mm_stack::{StackFault, Verdict};
 use std::alloc::Global;
 
-/// The last line, where one proof was checked: how many are accepted, incomplete and faulty.
+/// The last line: how many proofs were checked, accepted, incomplete and faulty.
 #[tactic(auto, unfolding(crate::specs::Verdicts::checked_text))]
-fn checked(alloc: Global, accepted: u64, incomplete: u64, faulty: u64) -> Result<Vec<u8>, Memory>
-    requires { accepted + incomplete + faulty < 2 ^ 64 }
-    ensures { IfOk result (λ text. text.items ≡ checked_text accepted incomplete faulty) }
+fn checked(
+    alloc: Global,
+    all: u64,
+    accepted: u64,
+    incomplete: u64,
+    faulty: u64,
+) -> Result<Vec<u8>, Memory>
+    ensures { IfOk result (λ text. text.items ≡ checked_text all accepted incomplete faulty) }
 {
-    let all = accepted + incomplete + faulty;
     let line = format!(in alloc;
         "Checked {all}: accepted {accepted}, incomplete {incomplete}, faulty {faulty}.\n"
     )?;
@@ -88,33 +94,105 @@ fn fault_text(alloc: Global, database: &Database, fault: StackFault) -> Result<V
     }
 }
 
-/// The line of a theorem, and then the last line.
-fn with_line(alloc: Global, label: &[u8], line: &[u8], last: Vec<u8>) -> Result<Text, Memory>
-    ensures { IfOk result (λ text. text ≡ label.now ++ (line_of line.now ++ last.items)) }
+/// Appends the line of a theorem whose proof is not accepted; nothing where it is.
+#[tactic(auto, unfolding(crate::specs::Verdicts::check_line))]
+fn push_line(
+    alloc: Global,
+    database: &Database,
+    check: Check,
+    into: &mut Vec<u8>,
+) -> Result<(), Memory>
+    ensures { OnOk result (into.new.items ≡ into.old.items ++ check_line database.now check) }
 {
-    let mut text = label.to_vec(alloc)?;
-    text.extend_from_slice(line)?;
-    text.push(b'\n')?;
+    match check.verdict {
+        Verdict::Accepted => {}
+        Verdict::Incomplete => {
+            into.extend_from_slice(label_text(database, check.theorem))?;
+            into.extend_from_slice(b": incomplete\n")?;
+        }
+        Verdict::Faulty(fault) => {
+            let line = fault_text(alloc, database, fault)?;
+            into.extend_from_slice(label_text(database, check.theorem))?;
+            into.extend_from_slice(b": ")?;
+            into.extend_from_slice(line.as_slice())?;
+            into.push(b'\n')?;
+        }
+    }
+    Ok(())
+}
+
+/// The label of a statement; no byte where there is none.
+fn label_text(database: &Database, id: StmtId) -> &[u8]
+    ensures { result.now ≡ label_at database.now id.0 }
+{
+    if id.0 < database.count() {
+        label_of(database, id)
+    } else {
+        &[]
+    }
+}
+
+fn is_accepted(verdict: Verdict) -> bool
+    ensures { result ≡ is_accepted verdict }
+{
+    matches!(&verdict, Verdict::Accepted)
+}
+
+fn is_incomplete(verdict: Verdict) -> bool
+    ensures { result ≡ is_incomplete verdict }
+{
+    matches!(&verdict, Verdict::Incomplete)
+}
+
+fn is_faulty(verdict: Verdict) -> bool
+    ensures { result ≡ is_faulty verdict }
+{
+    matches!(&verdict, Verdict::Faulty(_))
+}
+
+/// How many proofs were accepted.
+fn count_accepted(checks: &[Check]) -> usize
+    ensures { result ≡ count_by (λ c. is_accepted c.verdict) checks.now }
+{
+    checks.iter().filter(|c| is_accepted(c.verdict)).count()
+}
+
+/// How many are incomplete.
+fn count_incomplete(checks: &[Check]) -> usize
+    ensures { result ≡ count_by (λ c. is_incomplete c.verdict) checks.now }
+{
+    checks.iter().filter(|c| is_incomplete(c.verdict)).count()
+}
+
+/// How many are faulty.
+fn count_faulty(checks: &[Check]) -> usize
+    ensures { result ≡ count_by (λ c. is_faulty c.verdict) checks.now }
+{
+    checks.iter().filter(|c| is_faulty(c.verdict)).count()
+}
+
+/// The answer to VERIFY PROOF, where these proofs were checked.
+pub fn checks_text(alloc: Global, database: &Database, checks: &[Check]) -> Result<Text, Memory>
+    ensures { IfOk result (λ text. text ≡ checks_text database.now checks.now) }
+{
+    let mut text = Vec::new(alloc);
+    for check in checks {
+        push_line(alloc, database, *check, &mut text)?;
+    }
+    let last = last_line(alloc, checks)?;
     text.extend_from_slice(last.as_slice())?;
     Ok(Text::new(b"", text))
 }
 
-/// The answer to VERIFY PROOF, where the label's theorem is checked.
-pub fn verdict_text(
-    alloc: Global,
-    database: &Database,
-    label: &[u8],
-    verdict: Verdict,
-) -> Result<Text, Memory>
-    ensures { IfOk result (λ text. text ≡ verdict_text database.now label.now verdict) }
+/// The last line, by how many proofs were accepted, are incomplete and are faulty.
+fn last_line(alloc: Global, checks: &[Check]) -> Result<Vec<u8>, Memory>
+    ensures { IfOk result (λ text. text.items ≡ last_line checks.now) }
 {
-    match verdict {
-        Verdict::Accepted => Ok(Text::new(b"", checked(alloc, 1, 0, 0)?)),
-        Verdict::Incomplete => with_line(alloc, label, b": incomplete", checked(alloc, 0, 1, 0)?),
-        Verdict::Faulty(fault) => {
-            let mut line = b": ".to_vec(alloc)?;
-            line.extend_from_slice(fault_text(alloc, database, fault)?.as_slice())?;
-            with_line(alloc, label, line.as_slice(), checked(alloc, 0, 0, 1)?)
-        }
-    }
+    checked(
+        alloc,
+        checks.len() as u64,
+        count_accepted(checks) as u64,
+        count_incomplete(checks) as u64,
+        count_faulty(checks) as u64,
+    )
 }
