@@ -3,3 +3,4 @@ pub mod Keys
 pub mod Prefixes
 mod PairByPair
 mod Placing
+mod Meanings

@@ -3,4 +3,5 @@ pub mod Substitutions
 pub mod Places
 pub mod Applied
 pub mod Statements
+pub mod Parsing
 pub mod Brackets

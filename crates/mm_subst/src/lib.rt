@@ -4,6 +4,7 @@
 mod brackets;
 mod fault;
 mod laws;
+mod parsing;
 mod places;
 mod replace;
 mod stated;
@@ -11,11 +12,13 @@ mod string;
 mod subst;
 mod symbol;
 mod values;
+mod work;
 
 pub use brackets::{Bracket, Brackets, balanced};
-pub use fault::TooLongOrMemory;
+pub use fault::{ParseFault, TooLongOrMemory};
 pub use laws::{strings_join, twice_is_once, without_keys_nothing_changes};
 pub use mm_scope::MOST_SYMBOLS;
+pub use parsing::parse;
 pub use replace::apply;
 pub use stated::{own_symbol, statement};
 pub use std::alloc::AllocError as Memory;
