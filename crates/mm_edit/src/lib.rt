@@ -2,7 +2,9 @@
 #![tactic(auto)]
 
 mod assignment;
+mod edit_fault;
 mod fault;
 
 pub use assignment::assign;
+pub use edit_fault::EditFault;
 pub use fault::AssignFault;
