@@ -1,6 +1,6 @@
 -- A valid proof under a substitution is valid, where no string gets too long.
 use Rattle.std.proofs.Common.{◌≡◌, ℕ, Bool, true, false, ◌||◌, List, [], ◌∷◌, map, length, get_or, Option, None, Some, if◌then◌else◌, refl, sym, ◌∙◌, ap, subst, arith}
-use Rattle.std.proofs.lemmas.Bool.{ltb-false}
+use Rattle.std.proofs.lemmas.Bool.{ltb-false, le-ltb}
 use Rattle.mm_scope.specs.Contents.{stated_at}
 use Rattle.mm_stated.specs.Stated.{is_hypothesis}
 use Rattle.std.proofs.lemmas.List.Elements.{recursion_from_All, All-from_recursion, All-nil, All-cons}
@@ -17,15 +17,16 @@ use Rattle.mm_plain.specs.declared.plain.Plain.{Plain}
 use Rattle.mm_plain.specs.Premises.{premises_of}
 use Rattle.mm_plain.specs.Shape.{Each, Proof, known, unknown, steps_of, target_of}
 use Rattle.mm_plain.specs.Sources.{source_of, sigma_of}
-use Rattle.mm_plain.proofs.First.{first_from-none}
+use Rattle.mm_plain.specs.Numbers.{first_from}
+use Rattle.mm_plain.proofs.First.{first_from-none, none-first_from}
 use Rattle.mm_plain.specs.Valid.{Setting, setting_of, IsKnownSymbol, IsString, IsInstance, IsGood, IsSound, IsValid}
-use Rattle.mm_plain.specs.Binding.{bound, bound_in, HasWorkKeys, IsBinding}
+use Rattle.mm_plain.specs.Binding.{bound, bound_in, HasWorkKeys, IsBinding, has_works}
 use Rattle.mm_plain.specs.Lengths.{is_long, is_long_source, is_long_step, first_long}
 use Rattle.mm_plain.proofs.Equations.{by_trees, target_of-unknown, target_of-known}
-use Rattle.mm_plain.proofs.Read.{source_of-known, sigma_of-known}
+use Rattle.mm_plain.proofs.Read.{source_of-unknown, source_of-known, sigma_of-unknown, sigma_of-known}
 use Rattle.mm_plain.proofs.Kept.{good-unknown, unknown-good, good-known, known-good}
 use Rattle.mm_plain.proofs.Binding.{bound-unknown, bound-known, map-map, map-same, target_of-bound, sigma_of-bound, steps_of-bound, size_of-bound, height_of-bound}
-use Rattle.mm_plain.proofs.Works.{neither, source_of-bound, statement-with_values}
+use Rattle.mm_plain.proofs.Works.{neither, or-none, bound-plain, source_of-bound, statement-with_values}
 
 -- a string under theta
 
@@ -142,3 +143,64 @@ valid-bound bytes at goal p theta v h short = record {
   few = let few = v.few in omega (arith, size_of-bound theta p.plain);
   low = let low = v.low in omega (arith, height_of-bound theta p.plain);
 }
+
+-- the strings of a sound tree are not too long
+
+not_long : (c : Setting) (s : List WSym) → IsString c s → is_long s ≡ false
+not_long c s h = le-ltb most_symbols (length s) h.short
+
+values_short : (c : Setting) (s : Pairs) → ByRecursion (λ p. IsString c p.1) s → list_any (λ p. is_long p.1) s ≡ false
+values_short c [] h = refl
+values_short c (p ∷ ps) h = ap (λ b. b || list_any (λ q. is_long q.1) ps) (not_long c p.1 h.0) ∙ values_short c ps h.1
+
+long_by : (a b d : Bool) → a ≡ false → b ≡ false → d ≡ false → (a || b || d) ≡ false
+long_by a b d e f g = ap (λ x. x || b || d) e ∙ ap (λ x. x || d) f ∙ g
+
+good_short : (c : Setting) (x : Plain) → IsGood c x → is_long_step c.bytes x ≡ false
+unfolding is_long_step
+good_short c = by_trees (λ x. IsGood c x → is_long_step c.bytes x ≡ false)
+    (λ t g. long_by _ _ _ (ap is_long (target_of-unknown t) ∙ not_long c t (unknown-good c t g)) (ap is_long_source (source_of-unknown c.bytes t))
+    (ap (list_any (λ p. is_long p.1)) (sigma_of-unknown t)))
+    (λ t l s kids e g. let i = known-good c t l s kids g in
+    long_by _ _ _ (ap is_long (target_of-known t l s kids) ∙ not_long c t i.target)
+    (ap is_long_source (source_of-known c.bytes t l s kids) ∙ not_long c (applied s (statement_of c.bytes l)) i.names.source)
+    (ap (list_any (λ p. is_long p.1)) (sigma_of-known t l s kids) ∙ values_short c s (recursion_from_All _ _ i.names.values)))
+
+all_short : (c : Setting) (xs : List Plain) → Each (IsGood c) xs → ByRecursion (λ y. is_long_step c.bytes y ≡ false) xs
+all_short c [] g = tt
+all_short c (x ∷ xs) g = (good_short c x g.0, all_short c xs g.1)
+
+pub sound_short : (c : Setting) (x : Plain) → IsSound c x → ByRecursion (λ y. is_long_step c.bytes y ≡ false) (steps_of x)
+unfolding IsSound
+sound_short c x g = all_short c (steps_of x) g
+
+-- so a sound tree without work variables has no string that gets too long
+pub plain_short : (c : Setting) (theta : Pairs) (x : Plain) → HasWorkKeys theta → IsSound c x → has_works x ≡ false → ByRecursion (λ y. is_long_step c.bytes y ≡ false) (steps_of (bound theta x))
+plain_short c theta x h g e = subst (λ y. ByRecursion (λ z. is_long_step c.bytes z ≡ false) (steps_of y)) (sym (bound-plain theta h x e)) (sound_short c x g)
+
+pub none_long-plain : (c : Setting) (theta : Pairs) (x : Plain) (n : ℕ) → HasWorkKeys theta → IsSound c x → has_works x ≡ false
+    → first_from (is_long_step c.bytes) n (steps_of (bound theta x)) ≡ None
+none_long-plain c theta x n h g e = none-first_from (is_long_step c.bytes) n (steps_of (bound theta x)) (plain_short c theta x h g e)
+
+-- what is too long of a known step under theta
+pub is_long-known : (bytes : List ℕ) (theta : Pairs) → HasWorkKeys theta → (t : List WSym) (l : ℕ) (s : Pairs) (kids : List Plain)
+    → is_long_step bytes (bound theta (known t l s kids))
+    ≡ (is_long (applied theta t) || is_long (applied theta (applied s (statement_of bytes l))) || list_any (λ p. is_long p.1) (with_values theta s))
+unfolding is_long_step
+is_long-known bytes theta h t l s kids =
+    let x : Plain = known t l s kids in
+    let y : Plain = bound theta x in
+    ap (λ u. is_long u || is_long_source (source_of bytes y) || list_any (λ p. is_long p.1) (sigma_of y)) (target_of-bound theta x ∙ ap (applied theta) (target_of-known t l s kids))
+    ∙ ap (λ o. is_long (applied theta t) || is_long_source o || list_any (λ p. is_long p.1) (sigma_of y)) (source_of-bound bytes theta h x ∙ ap (option_map (applied theta)) (source_of-known bytes t l s kids))
+    ∙ ap (λ r. is_long (applied theta t) || is_long (applied theta (applied s (statement_of bytes l))) || list_any (λ p. is_long p.1) r) (sigma_of-bound theta x ∙ ap (with_values theta) (sigma_of-known t l s kids))
+
+pub is_long-unknown : (bytes : List ℕ) (theta : Pairs) (t : List WSym) → is_long_step bytes (bound theta (unknown t)) ≡ is_long (applied theta t)
+unfolding is_long_step
+is_long-unknown bytes theta t =
+    let y : Plain = unknown (applied theta t) in
+    ap (λ z. is_long (target_of z) || is_long_source (source_of bytes z) || list_any (λ p. is_long p.1) (sigma_of z)) (bound-unknown theta t)
+    ∙ ap (λ u. is_long u || is_long_source (source_of bytes y) || list_any (λ p. is_long p.1) (sigma_of y)) (target_of-unknown (applied theta t))
+    ∙ ap (λ o. is_long (applied theta t) || is_long_source o || list_any (λ p. is_long p.1) (sigma_of y)) (source_of-unknown bytes (applied theta t))
+    ∙ ap (λ r. is_long (applied theta t) || false || list_any (λ p. is_long p.1) r) (sigma_of-unknown (applied theta t))
+    ∙ or-none (is_long (applied theta t) || false)
+    ∙ or-none (is_long (applied theta t))

@@ -14,16 +14,17 @@ use Rattle.mm_plain.specs.declared.plain.Plain.TheFolds as F
 use Rattle.mm_plain.specs.Premises.{premises_of, variables_for, may_stand}
 use Rattle.mm_plain.specs.Shape.{Each, Proof, known, unknown, size_of, height_of, greatest, steps_of, step_at, target_of}
 use Rattle.mm_plain.specs.Numbers.{labels_in}
-use Rattle.mm_plain.specs.Valid.{Setting, setting_of, IsString, IsInstance, IsGood, IsSound, IsValid, most_works}
-use Rattle.mm_plain.specs.Drawing.{fresh_for, draws_by, draws_of, fresh_among, fresh_step, with_fresh, with_fresh_kids, with_fresh_in, fitting_layer, IsFitting, AreFitting}
+use Rattle.mm_plain.specs.Valid.{Setting, setting_of, IsString, IsInstance, IsGood, IsSound, IsValid, most_works, most_steps, most_levels}
+use Rattle.mm_plain.specs.Grafts.{raised}
+use Rattle.mm_plain.specs.Drawing.{fresh_for, draws_by, draws_of, fresh_among, fresh_step, with_fresh, with_fresh_kids, with_fresh_in, placed_fresh, fitting_layer, IsFitting, AreFitting}
 use Rattle.mm_plain.proofs.Equations.{by_trees, sum_by-map, height_of-unknown, height_of-known, target_of-unknown, target_of-known}
 use Rattle.mm_plain.proofs.Sizes.{size-put}
 use Rattle.mm_plain.proofs.Walks.{labels_in-unknown, labels_in-known, length-labels_in}
-use Rattle.mm_plain.proofs.Kept.{sound-unknown, sound-known, put-kept, step-good, target-good, known-good}
+use Rattle.mm_plain.proofs.Kept.{valid-placed, sound-unknown, sound-known, put-kept, step-good, target-good, known-good}
 use Rattle.mm_plain.proofs.Parts.{each-known, height-put-le, height-part}
 use Rattle.mm_plain.proofs.Moved.{at_next, sound-raised}
 use Rattle.mm_plain.proofs.Fresh.{fits-fresh}
-use Rattle.mm_plain.proofs.Grafts.{sound-part}
+use Rattle.mm_plain.proofs.Grafts.{sound-part, valid-raised}
 
 -- the equations
 
@@ -226,3 +227,13 @@ valid-with_fresh bytes at goal p k v h g room =
       few = let few = v.few in omega (arith, size-put new p.plain k h g, size_of-with_fresh bytes y p.next t);
       low = let low = v.low in omega (arith, height-put-le new p.plain k h g, height_of-with_fresh bytes y p.next t, height-part p.plain k h g);
     }
+
+-- a valid proof stays valid where a step is made known by fresh work variables
+pub valid-placed_fresh : (bytes : List ℕ) (at : ℕ) (goal : List WSym) (p : Proof) (k id : ℕ) → IsValid bytes at goal p → 1 ≤ k → k ≤ size_of p.plain → may_stand bytes at id ≡ true
+    → p.next + length (variables_for bytes id) ≤ most_works + 1 → size_of (placed_fresh bytes p k id).plain ≤ most_steps → height_of (placed_fresh bytes p k id).plain ≤ most_levels
+    → IsValid bytes at goal (placed_fresh bytes p k id)
+valid-placed_fresh bytes at goal p k id v h g stands room few low =
+    let n : ℕ = length (variables_for bytes id) in
+    let q : Proof = raised n p in
+    let first = v.counter.0 in
+    valid-placed bytes at goal q k id (fresh_for bytes p.next id) (valid-raised bytes at goal p n v room) h g (fits-fresh (setting_of bytes at q) p.next id stands first (omega arith)) few low

@@ -16,9 +16,9 @@ use Rattle.mm_plain.specs.Valid.{Setting, setting_of, first_setting, IsString, I
 use Rattle.mm_plain.proofs.Equations.{by_trees, size_of-known, size_of-unknown, height_of-unknown, put-unknown, steps_of-known, steps_of-unknown, length-steps_of, target_of-known, target_of-unknown}
 use Rattle.mm_plain.proofs.Trees.{seat-in, at-kid, at-root, at-leaf, put-in, put-root, put_kids-here, put_kids-later, seat-here, seat-later}
 
-each-append : (P : Plain → Type 0) (xs ys : List Plain) → Each P xs → Each P ys → Each P (xs ++ ys)
-each-append P [] ys a b = b
-each-append P (x ∷ xs) ys a b = (a.0, each-append P xs ys a.1 b)
+pub each-join : (P : Plain → Type 0) (xs ys : List Plain) → Each P xs → Each P ys → Each P (xs ++ ys)
+each-join P [] ys a b = b
+each-join P (x ∷ xs) ys a b = (a.0, each-join P xs ys a.1 b)
 
 each-left : (P : Plain → Type 0) (xs ys : List Plain) → Each P (xs ++ ys) → Each P xs
 each-left P [] ys a = tt
@@ -59,7 +59,7 @@ sound-unknown c t h = subst (Each (IsGood c)) (sym (steps_of-unknown t)) (good-u
 all-sound : (c : Setting) (kids : List Plain) → Each (IsSound c) kids → Each (IsGood c) (flat_map steps_of kids)
 unfolding IsSound
 all-sound c [] e = tt
-all-sound c (x ∷ xs) e = subst (Each (IsGood c)) (sym (flat_map-cons steps_of x xs)) (each-append (IsGood c) (steps_of x) (flat_map steps_of xs) e.0 (all-sound c xs e.1))
+all-sound c (x ∷ xs) e = subst (Each (IsGood c)) (sym (flat_map-cons steps_of x xs)) (each-join (IsGood c) (steps_of x) (flat_map steps_of xs) e.0 (all-sound c xs e.1))
 
 each-sound : (c : Setting) (kids : List Plain) → Each (IsGood c) (flat_map steps_of kids) → Each (IsSound c) kids
 unfolding IsSound
@@ -70,7 +70,7 @@ each-sound c (x ∷ xs) e = let f = subst (Each (IsGood c)) (flat_map-cons steps
 pub sound-known : (c : Setting) (t : List WSym) (l : ℕ) (s : Pairs) (kids : List Plain) → Each (IsSound c) kids → IsInstance c t l s (map target_of kids) → IsSound c (known t l s kids)
 unfolding IsSound
 sound-known c t l s kids e f = subst (Each (IsGood c)) (sym (steps_of-known t l s kids))
-    (each-append (IsGood c) (flat_map steps_of kids) (known t l s kids ∷ []) (all-sound c kids e) (good-known c t l s kids f, tt))
+    (each-join (IsGood c) (flat_map steps_of kids) (known t l s kids ∷ []) (all-sound c kids e) (good-known c t l s kids f, tt))
 
 pub kids-sound : (c : Setting) (t : List WSym) (l : ℕ) (s : Pairs) (kids : List Plain) → IsSound c (known t l s kids) → Each (IsSound c) kids × IsInstance c t l s (map target_of kids)
 unfolding IsSound

@@ -23,3 +23,4 @@ pub mod Moved
 pub mod Grafts
 pub mod Fresh
 pub mod Drawing
+pub mod LabelTrees

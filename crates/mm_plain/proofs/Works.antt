@@ -86,7 +86,7 @@ source_of-bound bytes theta h = by_trees (λ x. source_of bytes (bound theta x) 
 
 -- trees without work variables
 
-or-none : (b : Bool) → (b || false) ≡ b
+pub or-none : (b : Bool) → (b || false) ≡ b
 or-none true = refl
 or-none false = refl
 

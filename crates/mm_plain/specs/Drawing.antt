@@ -12,6 +12,8 @@ use Rattle.mm_plain.specs.declared.plain.Plain.TheFolds as F
 use Rattle.mm_plain.specs.Premises.{premises_of, variables_for, may_stand}
 use Rattle.mm_plain.specs.Shape.{Each, Proof, known, unknown, put, step_at, steps_of, target_of}
 use Rattle.mm_plain.specs.Numbers.{labels_in}
+use Rattle.mm_plain.specs.Valid.{placed_in}
+use Rattle.mm_plain.specs.Grafts.{raised}
 
 -- a work variable for each of these variables, by numbers from n on
 abbrev pub fresh_from : ℕ → List ℕ → Pairs
@@ -22,7 +24,11 @@ fresh_from n (v ∷ vs) = (Var v, Work n ∷ []) ∷ fresh_from (n + 1) vs
 abbrev pub fresh_for : List ℕ → ℕ → ℕ → Pairs
 fresh_for bytes n id = fresh_from n (variables_for bytes id)
 
--- how many that is; an unknown step needs none
+-- the proof with an unknown step made known by fresh work variables
+abbrev pub placed_fresh : List ℕ → Proof → ℕ → ℕ → Proof
+placed_fresh bytes p k id = placed_in bytes (raised (length (variables_for bytes id)) p) k id (fresh_for bytes p.next id)
+
+-- how many work variables that needs; an unknown step needs none
 abbrev pub draws_by : List ℕ → Option ℕ → ℕ
 draws_by bytes None = 0
 draws_by bytes (Some id) = length (variables_for bytes id)

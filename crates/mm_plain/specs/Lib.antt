@@ -9,3 +9,4 @@ pub mod Binding
 pub mod Lengths
 pub mod Grafts
 pub mod Drawing
+pub mod LabelTrees

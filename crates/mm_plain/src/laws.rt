@@ -1,17 +1,19 @@
 //! What holds of plain proofs.
 
-ghost use Rattle.std.specs.Prelude.{◌≡◌, ◌+◌, ◌<◌, ◌≤◌, max, ℕ, false, true, List, None, map, length};
+ghost use Rattle.std.specs.Prelude.{◌≡◌, ◌+◌, ◌<◌, ◌≤◌, max, ℕ, false, true, All, List, Option, None, Some, map, length};
+ghost use Rattle.std.specs.List.{sum_by};
 ghost use Rattle.std.specs.Option.{option_map};
 ghost use Rattle.mm_scope.specs.Contents.{labels_of};
 ghost use Rattle.mm_plain.specs.Binding.{HasWorkKeys, IsBinding, bound, bound_in, has_works};
-ghost use Rattle.mm_plain.specs.Drawing.{draws_of, fresh_for, with_fresh, with_fresh_in};
+ghost use Rattle.mm_plain.specs.Drawing.{AreFitting, draws_by, draws_of, fresh_for, placed_fresh, with_fresh, with_fresh_in};
 ghost use Rattle.mm_plain.specs.Grafts.{HasWorksBelow, cleared, cleared_in, grafted_in, part_at, raised};
+ghost use Rattle.mm_plain.specs.LabelTrees.{MayStand, fresh_by, fresh_proof, fresh_proof_of, tree_of};
 ghost use Rattle.mm_plain.specs.Lengths.{first_long};
 ghost use Rattle.mm_plain.specs.Numbers.{HasOwnLabels, labels_in};
 ghost use Rattle.mm_plain.specs.Shape.{Proof, depth_at, depths_of, placed, put, size_of, height_of, step_at, steps_of, target_of};
-ghost use Rattle.mm_plain.specs.Sources.{source_of};
+ghost use Rattle.mm_plain.specs.Sources.{sigma_of, source_of};
 ghost use Rattle.mm_plain.specs.Premises.{may_stand, premises_of, variables_for};
-ghost use Rattle.mm_plain.specs.Valid.{Fits, Setting, IsValid, most_levels, most_steps, most_works, placed_in, setting_of};
+ghost use Rattle.mm_plain.specs.Valid.{Fits, IsString, IsValid, Setting, first_setting, most_levels, most_steps, most_works, placed_in, setting_of};
 ghost use Rattle.mm_subst.specs.Substitutions.{Pairs, applied, then_by};
 ghost use Rattle.mm_subst.specs.declared.symbol.WSym.{WSym};
 ghost use Rattle.mm_plain.specs.declared.plain.Plain.{Plain};
@@ -84,13 +86,29 @@ pub fn heights_add_up()
     ensures grafted { (new x : Plain) (k : ℕ) → 1 ≤ k → k ≤ size_of x → size_of (step_at x k) ≡ 1 → height_of (put x k new) ≡ max (height_of x) (depth_at x k + height_of new) }
 {}
 
-/// A statement that may stand in a proof fits with fresh work variables for its variables, where so many may be drawn. So
-/// does each step of a part: a valid proof stays valid where the part at a step has fresh work variables throughout. The
+/// A statement that may stand in a proof fits with fresh work variables for its variables, where so many may be drawn. So a
+/// valid proof stays valid where an unknown step is made known by them, and where the part at a step has them throughout; the
 /// part keeps its labels.
 pub fn fresh_work_variables_fit(bytes: &[u8])
     ensures step { (c : Setting) (n id : ℕ) → may_stand c.bytes c.at id ≡ true → 1 ≤ n → n + length (variables_for c.bytes id) ≤ c.next → Fits c id (fresh_for c.bytes n id) }
+    ensures placed { (at k id : ℕ) (goal : List WSym) (p : Proof) → IsValid bytes.now at goal p → 1 ≤ k → k ≤ size_of p.plain → may_stand bytes.now at id ≡ true → p.next + length (variables_for bytes.now id) ≤ most_works + 1 → size_of (placed_fresh bytes.now p k id).plain ≤ most_steps → height_of (placed_fresh bytes.now p k id).plain ≤ most_levels → IsValid bytes.now at goal (placed_fresh bytes.now p k id) }
     ensures part { (at k : ℕ) (goal : List WSym) (p : Proof) → IsValid bytes.now at goal p → 1 ≤ k → k ≤ size_of p.plain → p.next + draws_of bytes.now (step_at p.plain k) ≤ most_works + 1 → IsValid bytes.now at goal (with_fresh_in bytes.now p k) }
     ensures labels { (x : Plain) (n : ℕ) (t : List WSym) → labels_in (with_fresh bytes.now x n t) ≡ labels_in x }
+{
+    let _ = bytes;
+}
+
+/// The tree of a list of labels has these labels, and each tree whose steps fit comes of its own. The proof that labels begin
+/// is this tree with fresh work variables, drawn in postorder from 1: it has a step for each label and as many levels as the
+/// tree. It is valid for a goal without work variables, where each label may stand in the proof, and it isn't too large.
+pub fn labels_begin_valid_proofs(bytes: &[u8])
+    ensures labels { (goal : List WSym) (labels : List (Option ℕ)) (p : Proof) → fresh_proof_of bytes.now goal labels ≡ Some p → labels_in p.plain ≡ labels }
+    ensures own { (at : ℕ) (goal : List WSym) (x : Plain) → AreFitting bytes.now at x → fresh_proof_of bytes.now goal (labels_in x) ≡ Some (fresh_proof bytes.now goal x) }
+    ensures size { (goal : List WSym) (labels : List (Option ℕ)) (p : Proof) → fresh_proof_of bytes.now goal labels ≡ Some p → size_of p.plain ≡ length labels }
+    ensures height { (goal : List WSym) (labels : List (Option ℕ)) (x : Plain) (p : Proof) → tree_of bytes.now labels ≡ Some x → fresh_proof_of bytes.now goal labels ≡ Some p → height_of p.plain ≡ height_of x }
+    ensures drawn { (goal : List WSym) (labels : List (Option ℕ)) (p : Proof) → fresh_proof_of bytes.now goal labels ≡ Some p → map sigma_of (steps_of p.plain) ≡ fresh_by bytes.now 1 labels }
+    ensures next { (goal : List WSym) (labels : List (Option ℕ)) (p : Proof) → fresh_proof_of bytes.now goal labels ≡ Some p → p.next ≡ 1 + sum_by (draws_by bytes.now) labels }
+    ensures valid { (at : ℕ) (goal : List WSym) (labels : List (Option ℕ)) (p : Proof) → fresh_proof_of bytes.now goal labels ≡ Some p → All (MayStand bytes.now at) labels → IsString (first_setting bytes.now at) goal → length labels ≤ most_steps → height_of p.plain ≤ most_levels → p.next ≤ most_works + 1 → IsValid bytes.now at goal p }
 {
     let _ = bytes;
 }
