@@ -1,5 +1,5 @@
 -- The keys of a substitution.
-use Rattle.std.proofs.Common.{◌≡◌, ℕ, true, false, ◌==◌, List, [], ◌∷◌, ◌++◌, map, None, refl, sym, ◌∙◌, ap, arith, eqb-true, eq-eqb}
+use Rattle.std.proofs.Common.{◌≡◌, ◌<◌, ℕ, zero, suc, length, take, get_or, true, false, ◌==◌, List, [], ◌∷◌, ◌++◌, map, None, refl, sym, ◌∙◌, ap, arith, eqb-true, eq-eqb}
 use Rattle.std.proofs.lemmas.Option.{none-some}
 use Rattle.std.specs.Option.{option_map}
 use Rattle.mm_subst.specs.Symbols.{is_same}
@@ -60,3 +60,16 @@ HasDistinctKeys-with_values theta (p ∷ ps) d = (value_at-with_values theta ps 
 pub keys-with_values : (theta sigma : Pairs) → map (λ (p : WSym × List WSym). p.0) (with_values theta sigma) ≡ map (λ (p : WSym × List WSym). p.0) sigma
 keys-with_values theta [] = refl
 keys-with_values theta (p ∷ ps) = ap (λ xs. p.0 ∷ xs) (keys-with_values theta ps)
+
+-- the key of a later pair is no earlier one's
+not_there : (ps : Pairs) (k : WSym) (i : ℕ) (d : WSym × List WSym) → i < length ps → value_at ps k ≡ None → is_same (get_or ps i d).0 k ≡ false
+not_there [] k i d h none = absurd (omega (arith, h))
+not_there (p ∷ ps) k zero d h none = (apart p ps k none).0
+not_there (p ∷ ps) k (suc i) d h none = not_there ps k i d (omega (arith, h)) (apart p ps k none).1
+
+pub value_at-take : (ps : Pairs) (i : ℕ) (d : WSym × List WSym) → i < length ps → HasDistinctKeys ps → value_at (take i ps) (get_or ps i d).0 ≡ None
+value_at-take [] i d h distinct = absurd (omega (arith, h))
+value_at-take (p ∷ ps) zero d h distinct = refl
+value_at-take (p ∷ ps) (suc i) d h distinct =
+    let other : is_same p.0 (get_or ps i d).0 ≡ false = is_same-comm p.0 (get_or ps i d).0 ∙ not_there ps p.0 i d (omega (arith, h)) distinct.0 in
+    rw other (value_at-take ps i d (omega (arith, h)) distinct.1)

@@ -1,3 +1,4 @@
 pub mod Replaced
 pub mod Keys
 pub mod Prefixes
+mod PairByPair

@@ -9,6 +9,7 @@ mod stated;
 mod string;
 mod subst;
 mod symbol;
+mod values;
 
 pub use brackets::{Bracket, Brackets, balanced};
 pub use fault::TooLongOrMemory;
@@ -20,3 +21,4 @@ pub use std::alloc::AllocError as Memory;
 pub use string::{WStr, has_work};
 pub use subst::Subst;
 pub use symbol::WSym;
+pub use values::apply_to_values;

@@ -1,7 +1,7 @@
 //! Substitutions.
 
 ghost use Rattle.std.specs.Prelude.{◌≡◌, ◌≤◌, ◌-◌, ◌∷◌, [], ◌++◌, length, map, slice_get, OnOk, OnErr, IfOk, MatchOption, None, Some};
-ghost use Rattle.mm_subst.specs.Substitutions.{value_at};
+ghost use Rattle.mm_subst.specs.Substitutions.{value_at, HasDistinctKeys};
 
 use crate::string::WStr;
 use crate::symbol::WSym;
@@ -72,6 +72,22 @@ impl Subst {
         ensures { slice_get (map (λ p. p.0) self.now) (k - 1) ≡ Some result }
     {
         self.pairs[k as usize - 1].0
+    }
+
+    /// The value of a pair, counted from 1.
+    pub fn value(&self, k: u64) -> &WStr
+        requires { (1 ≤ k) × (k ≤ length self.now) }
+        ensures { slice_get (map (λ p. p.1) self.now) (k - 1) ≡ Some result.now }
+    {
+        &self.pairs[k as usize - 1].1
+    }
+
+    /// The pairs, in the order in which they were put.
+    pub fn pairs(&self) -> &[(WSym, WStr)]
+        ensures pairs { result.now ≡ self.now }
+        ensures distinct { HasDistinctKeys self.now }
+    {
+        self.pairs.as_slice()
     }
 
     /// The same substitution once more.
