@@ -58,13 +58,15 @@ abbrev pub first_unifier : List ℕ → Settings → List Plain → Option Pairs
 first_unifier bytes set [] = None
 first_unifier bytes set (y ∷ ys) = or_next (unifier_at bytes set y) (first_unifier bytes set ys)
 
+-- what follows with a unifier, where there is one; else the proof as it is
+abbrev pub going_on : Option Pairs → Proof → (Pairs → Result Proof EditFault) → Result Proof EditFault
+going_on None p onward = Ok p
+going_on (Some theta) p onward = onward theta
+
 -- at most n unifiers applied one after the other, each that of the first step that then has one
 unfoldable pub unified_in : ℕ → List ℕ → Settings → Proof → Result Proof EditFault
 unified_in zero bytes set p = Ok p
-unified_in (suc n) bytes set p = elim (first_unifier bytes set (steps_of p.plain)) [
-  | None ↦ Ok p
-  | Some theta ↦ given (applying bytes theta p) (unified_in n bytes set)
-]
+unified_in (suc n) bytes set p = going_on (first_unifier bytes set (steps_of p.plain)) p (λ theta. given (applying bytes theta p) (unified_in n bytes set))
 
 -- The proof in which no pending step has an only unifier any more. Each one applied leaves fewer steps pending, so there are
 -- at most as many as steps are pending.

@@ -24,3 +24,4 @@ pub mod Grafts
 pub mod Fresh
 pub mod Drawing
 pub mod LabelTrees
+pub mod Puts
