@@ -19,7 +19,7 @@ use crate::file::read_file;
 use crate::frame::{Active, ActivePairs, Frame, Ids, Pairs, Symbols};
 use crate::reader::Reader;
 use mm_stated::{Kind, Statement, ordered_variables, typecodes_of, variables_of};
-use mm_tables::{Found, Layers, Marks, Names, Pair, Parted, Partings, SymbolTable};
+use mm_tables::{Declarations, Found, Layers, Marks, Names, Pair, Parted, Partings, SymbolTable};
 use mm_tokens::Span;
 use std::alloc::{AllocError, Global};
 use std::marker::Model;
@@ -42,7 +42,7 @@ pub struct Database {
     until: Vec<Option<u32>>,
     partings: Partings,
     actives: Layers,
-    variables: Layers,
+    variables: Declarations,
     known: Vec<u32>,
     typecodes: Marks,
 }
@@ -252,11 +252,12 @@ impl Database {
         ensures { result ≡ is_active_number self.now at.0 found.number found.standing.constant }
     {
         found.number < self.known[at.0 as usize]
-            && (found.standing.constant || self.variables.at(at.0).contains(found.number))
+            && (found.standing.constant || self.variables.was_in_force(at.0, found.number))
     }
 
     /// The symbol with a text; `None` where no symbol with it is active at a statement: a constant is from its declaration
-    /// on, a variable to the end of the block in which it is declared (Metamath book, section 4.2.8).
+    /// on, a variable to the end of the block in which it is declared (Metamath book, section 4.2.8). It takes the time of
+    /// a search among the declarations of that symbol.
     pub fn active_symbol(&self, at: StmtId, text: &[u8]) -> Option<Sym>
         requires { at.0 < length (labels_of self.now) }
         ensures value { option_map (λ s. s.0) result ≡ active_symbol_at self.now at.0 text.now }

@@ -14,7 +14,7 @@ use crate::ending::{Block, Ending};
 use crate::fault::ReadFault;
 use crate::mode::Mode;
 use mm_stated::{Kind, Statement, mandatory_of, variables_of};
-use mm_tables::{Gathered, Layers, NOTHING, Names, Partings, Standing, SymbolTable};
+use mm_tables::{Declarations, Gathered, Layers, NOTHING, Names, Partings, Standing, SymbolTable};
 use mm_tokens::{Span, Word, is_bad_label, is_bad_symbol};
 use std::alloc::Global;
 
@@ -37,7 +37,7 @@ pub struct Reader {
     pub partings: Partings,
     pub actives: Layers,
     pub essentials: Layers,
-    pub variables: Layers,
+    pub variables: Declarations,
     pub known: Vec<u32>,
     pub mode: Mode,
     pub begun: u64,
@@ -196,7 +196,7 @@ impl Reader {
             )?;
         }
         self.endings.push(Ending::Active(found.number))?;
-        self.variables.push(found.number)?;
+        self.variables.push(alloc, found.number)?;
         self.buffer.push(found.number)?;
         Ok(())
     }
@@ -521,13 +521,13 @@ impl Reader {
     }
 
     /// The innermost block is closed.
-    fn close(&mut self)
-        ensures { state_of self.new ≡ closed_block (state_of self.old) }
+    fn close(&mut self, alloc: Global) -> Result<(), ReadFault>
+        ensures { Gives self.new result (Ok (closed_block (state_of self.old))) }
     {
+        self.variables.close(alloc)?;
         self.partings.close();
         self.actives.close();
         self.essentials.close();
-        self.variables.close();
         if let Some(block) = self.blocks.pop() {
             end_from(&mut self.symbols, &mut self.endings, block.endings);
             let next = self.labels.len() as u32;
@@ -538,11 +538,12 @@ impl Reader {
                 next,
             );
         }
+        Ok(())
     }
 
     /// `$}`.
     #[tactic(auto, unfolding(crate::specs::Steps::at_close, crate::specs::Contexts::add_to))]
-    fn at_close(&mut self, place: u64) -> Result<(), ReadFault>
+    fn at_close(&mut self, alloc: Global, place: u64) -> Result<(), ReadFault>
         ensures { Gives self.new result (at_close add_to (state_of self.old) self.old.mode (answers (context_of self.old) []).deep place) }
     {
         match self.mode {
@@ -550,8 +551,7 @@ impl Reader {
                 if !self.is_deep() {
                     return Err(ReadFault::BlockNotOpen(place));
                 }
-                self.close();
-                Ok(())
+                self.close(alloc)
             }
             Mode::Labelled => Err(ReadFault::LabelNotWanted(place)),
             _ => Err(ReadFault::WrongForm(place)),
@@ -580,7 +580,7 @@ impl Reader {
             Word::Variables => self.unlabelled(Mode::Variables, place),
             Word::Distinct => self.unlabelled(Mode::Distinct, place),
             Word::Open => self.at_open(place),
-            Word::Close => self.at_close(place),
+            Word::Close => self.at_close(alloc, place),
             Word::Float => self.labelled(Mode::Float, place),
             Word::Essential => self.labelled(Mode::Essential, place),
             Word::Axiom => self.labelled(Mode::Axiom, place),

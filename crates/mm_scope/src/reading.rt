@@ -9,7 +9,7 @@ ghost use Rattle.mm_scope.specs.Reading.{after, read_from, step, without_comment
 use crate::fault::ReadFault;
 use crate::mode::Mode;
 use crate::reader::Reader;
-use mm_tables::{Gathered, Layers, Names, Partings, SymbolTable};
+use mm_tables::{Declarations, Gathered, Layers, Names, Partings, SymbolTable};
 use mm_tokens::{Piece, Scanner, Token, word_of};
 use std::alloc::Global;
 
@@ -28,7 +28,7 @@ pub fn new_reader(alloc: Global) -> Reader
         partings: Partings::new(alloc),
         actives: Layers::new(alloc),
         essentials: Layers::new(alloc),
-        variables: Layers::new(alloc),
+        variables: Declarations::new(alloc),
         known: Vec::new(alloc),
         mode: Mode::Start,
         begun: 0,

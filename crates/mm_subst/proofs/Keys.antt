@@ -43,7 +43,7 @@ pub value_at-put : (ps : Pairs) (x k : WSym) (v : List WSym) → value_at ps x �
 value_at-put [] x k v h e = grind arith
 value_at-put (p ∷ ps) x k v h e = let ih = value_at-put ps x k v in grind (arith, ih)
 
-apart : (p : WSym × List WSym) (ps : Pairs) (k : WSym) → value_at (p ∷ ps) k ≡ None → (is_same p.0 k ≡ false) × (value_at ps k ≡ None)
+pub apart : (p : WSym × List WSym) (ps : Pairs) (k : WSym) → value_at (p ∷ ps) k ≡ None → (is_same p.0 k ≡ false) × (value_at ps k ≡ None)
 apart p ps k h = elim (is_same p.0 k) as (λ b. is_same p.0 k ≡ b → (is_same p.0 k ≡ false) × (value_at ps k ≡ None)) [ true ↦ λ e. absurd (none-some p.1 (sym h ∙ rw e refl)) | false ↦ λ e. (e, rw e at h) ] refl
 
 pub HasDistinctKeys-put : (ps : Pairs) (k : WSym) (v : List WSym) → HasDistinctKeys ps → value_at ps k ≡ None → HasDistinctKeys (ps ++ (k, v) ∷ [])

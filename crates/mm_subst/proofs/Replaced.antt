@@ -127,11 +127,11 @@ pub applied-with_values : (theta sigma : Pairs) (s : List WSym) → All (λ x. v
     → applied theta (applied sigma s) ≡ applied (with_values theta sigma) s
 applied-with_values theta sigma s h = by_values theta sigma s (recursion_from_All _ s h)
 
-abbrev or_next : Option (List WSym) → Option (List WSym) → Option (List WSym)
+abbrev pub or_next : Option (List WSym) → Option (List WSym) → Option (List WSym)
 or_next None o = o
 or_next (Some v) o = Some v
 
-value_at-append : (ps qs : Pairs) (x : WSym) → value_at (ps ++ qs) x ≡ or_next (value_at ps x) (value_at qs x)
+pub value_at-append : (ps qs : Pairs) (x : WSym) → value_at (ps ++ qs) x ≡ or_next (value_at ps x) (value_at qs x)
 value_at-append [] qs x = refl
 value_at-append (p ∷ ps) qs x = let ih = value_at-append ps qs x in elim (is_same p.0 x) as (λ b. is_same p.0 x ≡ b → value_at (p ∷ ps ++ qs) x ≡ or_next (value_at (p ∷ ps) x) (value_at qs x)) [ true ↦ λ e. rw e refl | false ↦ λ e. rw e ih ] refl
 

@@ -4,6 +4,7 @@
 mod brackets;
 mod fault;
 mod laws;
+mod places;
 mod replace;
 mod stated;
 mod string;

@@ -5,7 +5,7 @@ ghost use Rattle.mm_subst.specs.Symbols.{is_same, is_work};
 
 /// A symbol of a string: a constant or a variable of a database, by its number there, or a work variable, which stands
 /// for a string that is not found yet.
-#[derive(Clone, Copy, Debug, PartialEq, Eq)]
+#[derive(Clone, Copy, Debug, PartialEq, Eq, PartialOrd, Ord)]
 pub enum WSym {
     Const(u32),
     Var(u32),

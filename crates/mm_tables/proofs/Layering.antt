@@ -1,16 +1,17 @@
 -- Groups by their numbers, in layers.
-use Rattle.std.proofs.Common.{◌≡◌, ◌<◌, ◌≤◌, ℕ, suc, ◌+◌, ◌-◌, Bool, true, false, ◌||◌, List, [], ◌∷◌, ◌++◌, Option, None, Some, length, map, take, get_or, All, refl, ap, sym, ◌∙◌, arith, length-append, Vec}
+use Rattle.std.proofs.Common.{◌≡◌, ◌<◌, ◌≤◌, ℕ, ◌+◌, ◌-◌, Bool, true, false, ◌||◌, List, [], ◌∷◌, ◌++◌, Option, None, Some, length, map, take, get_or, All, refl, ap, sym, ◌∙◌, arith, length-append, Vec}
 use Rattle.std.specs.List.{list_any}
 use Rattle.std.specs.Option.{MatchOption, unwrap_or}
 use Rattle.std.proofs.Math.ListN.{get_or-eq_default}
-use Rattle.std.proofs.lemmas.Grind.{common_steps}
-use Rattle.std.proofs.lemmas.List.{length-map, map-append, take-map, length-take-le, take-append-le, get_or_append_left, get_or-map}
+use Rattle.std.proofs.lemmas.List.{length-map, map-append, take-map, take-append-le, get_or_append_left, get_or-map}
 use Rattle.std.proofs.lemmas.List.Elements.{All-tail, All-cons, All-append, All-take, All-get_or}
 use Rattle.std.proofs.lemmas.List.Folds.{list_any-append}
 use Rattle.std.proofs.Math.Seq.{get_or-append_seam, take-length}
 use Rattle.mm_tables.specs.Texts.{texts}
 use Rattle.mm_tables.specs.Layered.{Layered, pushed, begun, ended}
-use Rattle.mm_tables.specs.Parting.{groups_of, layers_of_groups, AreBelow, Knows, Nests, AreInLayers}
+use Rattle.mm_tables.specs.Nesting.{Nests}
+use Rattle.mm_tables.specs.Parting.{groups_of, layers_of_groups, AreBelow, Knows, IsPart, AreInLayers}
+use Rattle.mm_tables.proofs.Nesting.{front_is, last_is, last, again, nests_more, nests_one_more}
 
 below_more : (n m : ℕ) (ks : List ℕ) → n ≤ m → AreBelow n ks → AreBelow m ks
 below_more n m ks h all = λ k d small. (let here = all k d small in omega (arith, here, h))
@@ -74,99 +75,6 @@ pub pushes : (groups : List (List ℕ)) (g : List ℕ) (l : Layered ℕ) (number
 pushes groups g l number h known =
     rw (now_with groups g l.now number h known.now, blocks_kept groups g l.outer known.outer, blocks_kept groups g l.moments known.moments) refl
 
--- no block begins with more than are in force
-within : (low : ℕ) (heights : List ℕ) (outer : List (List ℕ)) (now : List ℕ) → Nests low heights outer now → low ≤ length now
-unfolding Nests
-within low [] [] now nests = nests
-within low (h ∷ hs) (o ∷ os) now nests = omega (arith, nests.0, within h hs os now nests.2)
-within low [] (o ∷ os) now nests = absurd nests
-within low (h ∷ hs) [] now nests = absurd nests
-
-nests_more : (low : ℕ) (heights : List ℕ) (outer : List (List ℕ)) (now xs : List ℕ) → Nests low heights outer now → Nests low heights outer (now ++ xs)
-unfolding Nests
-nests_more low [] [] now xs nests = omega (arith, nests, length-append now xs)
-nests_more low (h ∷ hs) (o ∷ os) now xs nests =
-    (nests.0, nests.1 ∙ sym (take-append-le h now xs (within h hs os now nests.2)), nests_more h hs os now xs nests.2)
-nests_more low [] (o ∷ os) now xs nests = absurd nests
-nests_more low (h ∷ hs) [] now xs nests = absurd nests
-
-nests_one_more : (low : ℕ) (heights : List ℕ) (outer : List (List ℕ)) (now : List ℕ) → Nests low heights outer now
-    → Nests low (heights ++ length now ∷ []) (outer ++ now ∷ []) now
-unfolding Nests
-nests_one_more low [] [] now nests = (nests, sym (take-length now), omega arith)
-nests_one_more low (h ∷ hs) (o ∷ os) now nests = (nests.0, nests.1, nests_one_more h hs os now nests.2)
-nests_one_more low [] (o ∷ os) now nests = absurd nests
-nests_one_more low (h ∷ hs) [] now nests = absurd nests
-
-takes : (m n : ℕ) (xs : List ℕ) → m ≤ n → take m (take n xs) ≡ take m xs
-takes m n xs h = grind (arith, common_steps)
-
-module _ {X : Type 0} where
-  front : List X → List X
-  front [] = []
-  front (x ∷ []) = []
-  front (x ∷ y ∷ xs) = x ∷ front (y ∷ xs)
-
-  last : X → List X → X
-  last d [] = d
-  last d (x ∷ xs) = last x xs
-
-  front_is : (xs : List X) → take (length xs - 1) xs ≡ front xs
-  unfolding front
-  front_is [] = refl
-  front_is (x ∷ []) = refl
-  front_is (x ∷ y ∷ xs) =
-      let less : suc (suc (length xs)) - 1 ≡ suc (length xs) = omega arith in
-      let same : suc (length xs) - 1 ≡ length xs = omega arith in
-      rw less (ap (λ ys. x ∷ ys) (ap (λ n. take n (y ∷ xs)) (sym same) ∙ front_is (y ∷ xs)))
-
-  last_is : (d : X) (xs : List X) → get_or xs (length xs - 1) d ≡ last d xs
-  unfolding last
-  last_is d [] = refl
-  last_is d (x ∷ []) = refl
-  last_is d (x ∷ y ∷ xs) =
-      let less : suc (suc (length xs)) - 1 ≡ suc (length xs) = omega arith in
-      let same : suc (length xs) - 1 ≡ length xs = omega arith in
-      rw less (ap (λ n. get_or (y ∷ xs) n d) (sym same) ∙ last_is d (y ∷ xs))
-
--- what is left where the innermost block ends
-record Ends (low h : ℕ) (hs : List ℕ) (o : List ℕ) (os : List (List ℕ)) (now : List ℕ) : Type 0 where
-  nests : Nests low (front (h ∷ hs)) (front (o ∷ os)) (take (last h hs) now)
-  block : last o os ≡ take (last h hs) now
-  above : h ≤ last h hs
-
-ends : (low h : ℕ) (hs : List ℕ) (o : List ℕ) (os : List (List ℕ)) (now : List ℕ) → Nests low (h ∷ hs) (o ∷ os) now → Ends low h hs o os now
-unfolding Nests front last
-ends low h [] o [] now nests = record {
-  nests = omega (arith, nests.0, length-take-le h now nests.2);
-  block = nests.1;
-  above = omega arith;
-}
-ends low h (h2 ∷ hs) o (o2 ∷ os) now nests =
-    let inner = ends h h2 hs o2 os now nests.2 in
-    let high : h ≤ last h2 hs = omega (arith, nests.2.0, inner.above) in
-    record {
-      nests = (nests.0, nests.1 ∙ sym (takes h (last h2 hs) now high), inner.nests);
-      block = inner.block;
-      above = high;
-    }
-ends low h [] o (o2 ∷ os) now nests = absurd nests.2
-ends low h (h2 ∷ hs) o [] now nests = absurd nests.2
-
--- what is in force again, where no block is open nothing
-record Again (heights : List ℕ) (outer : List (List ℕ)) (now : List ℕ) : Type 0 where
-  nests : Nests 0 (front heights) (front outer) (last [] outer)
-  block : last [] outer ≡ take (last 0 heights) now
-
-again : (heights : List ℕ) (outer : List (List ℕ)) (now : List ℕ) → Nests 0 heights outer now → Again heights outer now
-unfolding Nests front last
-again [] [] now nests = record { nests = omega arith; block = refl }
-again (h ∷ hs) (o ∷ os) now nests =
-    let after = ends 0 h hs o os now nests in
-    record { nests = rw after.block after.nests; block = after.block }
-again [] (o ∷ os) now nests = absurd nests
-again (h ∷ hs) [] now nests = absurd nests
-
 last_below : (n : ℕ) (kss : List (List ℕ)) → All (AreBelow n) kss → AreBelow n (get_or kss (length kss - 1) [])
 last_below n [] all = λ i d small. absurd (omega (arith, small))
 last_below n (ks ∷ kss) all = All-get_or (AreBelow n) (ks ∷ kss) (length (ks ∷ kss) - 1) [] (omega arith) all
@@ -185,7 +93,7 @@ pub in_ended : (groups : List (List ℕ)) (l : Layered ℕ) (parted : List (List
     → height ≡ get_or heights (length heights - 1) 0
     → AreInLayers groups (ended l) (take height parted) (take (length heights - 1) heights)
 in_ended groups l parted heights height are h =
-    let after = again heights l.outer l.now are.nests in
+    let after = again IsPart [] heights l.outer l.now refl are.nests in
     let top : height ≡ last 0 heights = h ∙ last_is 0 heights in
     let block : get_or l.outer (length l.outer - 1) [] ≡ take height l.now = last_is [] l.outer ∙ after.block ∙ ap (λ n. take n l.now) (sym top) in
     record {
@@ -195,7 +103,7 @@ in_ended groups l parted heights height are h =
         moments = are.knows.moments;
       };
       now = ap (take height) are.now ∙ take-map (λ n. get_or groups n []) height l.now ∙ ap (groups_of groups) (sym block);
-      nests = rw (front_is heights, front_is l.outer, last_is [] l.outer) after.nests;
+      nests = rw (front_is heights, front_is l.outer, last_is [] l.outer, after.block) after.nests;
     }
 
 -- a block begins
@@ -211,7 +119,7 @@ in_begun groups l parted heights are =
         moments = are.knows.moments;
       };
       now = are.now;
-      nests = rw len (nests_one_more 0 heights l.outer l.now are.nests);
+      nests = rw len (nests_one_more IsPart 0 heights l.outer l.now l.now (sym (take-length l.now)) are.nests);
     }
 
 -- a group comes into force
@@ -228,7 +136,7 @@ in_pushed groups g l parted heights number are h =
         moments = spare.knows.moments;
       };
       now = ap (λ ps. ps ++ g ∷ []) are.now ∙ sym (now_with groups g l.now number h are.knows.now);
-      nests = nests_more 0 heights l.outer l.now (number ∷ []) are.nests;
+      nests = nests_more IsPart 0 heights l.outer l.now (number ∷ []) are.nests;
     }
 
 pub in_none : AreInLayers [] (record { now = []; outer = []; moments = [] }) [] []

@@ -4,4 +4,6 @@ pub mod LookBack
 mod Chains
 mod Distinct
 mod Numbered
+mod Nesting
 mod Layering
+mod Changing

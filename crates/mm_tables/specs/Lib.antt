@@ -7,4 +7,6 @@ pub mod Layered
 pub mod Trails
 pub mod Distinct
 pub mod Numbering
+pub mod Nesting
 pub mod Parting
+pub mod Changes

@@ -1,6 +1,7 @@
 -- Groups by their numbers, in layers.
-use Rattle.std.specs.Prelude.{◌≡◌, ◌≤◌, ◌<◌, ℕ, List, [], ◌∷◌, length, take, map, All, slice_index_or}
+use Rattle.std.specs.Prelude.{◌≡◌, ◌<◌, ℕ, List, [], length, map, All, slice_index_or}
 use Rattle.mm_tables.specs.Layered.{Layered}
+use Rattle.mm_tables.specs.Nesting.{Nests}
 
 -- the groups of these numbers
 abbrev pub groups_of : List (List ℕ) → List ℕ → List (List ℕ)
@@ -18,14 +19,11 @@ pub record Knows (n : ℕ) (l : Layered ℕ) : Type 0 where
   pub outer : All (AreBelow n) l.outer
   pub moments : All (AreBelow n) l.moments
 
--- each open block began with so many of those in force now, and none with fewer than the one that it is in
-unfoldable pub Nests : ℕ → List ℕ → List (List ℕ) → List ℕ → Type 0
-Nests low [] [] now = low ≤ length now
-Nests low (height ∷ heights) (block ∷ outer) now = (low ≤ height) × (block ≡ take height now) × Nests height heights outer now
-Nests low [] (block ∷ outer) now = ⊥
-Nests low (height ∷ heights) [] now = ⊥
+-- a block began with this part of what is in force now
+abbrev pub IsPart : List ℕ → List ℕ → Type 0
+IsPart part block = block ≡ part
 
 pub record AreInLayers (groups : List (List ℕ)) (l : Layered ℕ) (parted : List (List ℕ)) (heights : List ℕ) : Type 0 where
   pub knows : Knows (length groups) l
   pub now : parted ≡ groups_of groups l.now
-  pub nests : Nests 0 heights l.outer l.now
+  pub nests : Nests IsPart 0 heights l.outer l.now

@@ -1,6 +1,7 @@
 //! The tables of a database's reader: names in order of first appearance, symbols with what is in force of each, marks on numbers, and numbers gathered with marks.
 #![tactic(auto)]
 
+mod declarations;
 mod gathered;
 mod groups;
 mod holders;
@@ -14,6 +15,7 @@ mod partings;
 mod table;
 mod trail;
 
+pub use declarations::Declarations;
 pub use gathered::Gathered;
 pub use groups::Groups;
 pub use laws::looking_back_finds_what_is_kept;
