@@ -16,3 +16,6 @@ pub mod Loop
 pub mod Weight
 pub mod Remains
 pub mod Theorems
+pub mod Mirror
+pub mod Alone
+pub mod OneValue

@@ -14,7 +14,7 @@ pub record Continues (rule : Forbidden) (whole : Answer) (found : List Pairs) (n
 pub continues_first : (rule : Forbidden) (node : Node) (n : ℕ) (nodes : List Node) (found : List Pairs) → nodes ≡ node ∷ [] → found ≡ [] → Continues rule (explore rule n (node ∷ [])) found n nodes
 continues_first rule node n nodes found e f = rw (e, f) (record { found_is = refl; ended_is = refl })
 
-explore_none : (rule : Forbidden) (n : ℕ) → explore rule n [] ≡ stop Whole
+pub explore_none : (rule : Forbidden) (n : ℕ) → explore rule n [] ≡ stop Whole
 unfolding explore
 explore_none rule n = refl
 
@@ -23,7 +23,7 @@ unfolding explore
 explore_zero rule [] h = absurd (omega arith)
 explore_zero rule (node ∷ nodes) h = refl
 
-explore_more : (rule : Forbidden) (n : ℕ) (node : Node) (rest : List Node) → explore rule (suc n) (node ∷ rest) ≡ unless_long (is_too_long node) (visit rule node).found (explore rule n ((visit rule node).children ++ rest))
+pub explore_more : (rule : Forbidden) (n : ℕ) (node : Node) (rest : List Node) → explore rule (suc n) (node ∷ rest) ≡ unless_long (is_too_long node) (visit rule node).found (explore rule n ((visit rule node).children ++ rest))
 unfolding explore
 explore_more rule n node rest = refl
 

@@ -4,3 +4,4 @@ pub mod Forbidden
 pub mod Search
 pub mod Listings
 pub mod Trials
+pub mod Laws

@@ -3,10 +3,12 @@
 
 mod brackets;
 mod found;
+mod laws;
 mod listing;
 mod numbers;
 mod search;
 mod values;
 mod waiting;
 
+pub use laws::{more_trials_change_nothing, one_value_is_found, sides_do_not_matter};
 pub use listing::{Ended, Listing, Rule, Settings, unifiers};

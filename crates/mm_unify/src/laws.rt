@@ -1,0 +1,19 @@
+//! What holds of each search.
+
+ghost use Rattle.mm_unify.specs.Laws.{FindsValue, MoreChangeNothing, HasNoSides};
+
+/// A typecode and a work variable against the typecode and a value without work variables: that value alone is found, in
+/// one trial and two for each of its symbols, whichever of the two is on the left.
+pub fn one_value_is_found()
+    ensures { FindsValue }
+{}
+
+/// More trials change nothing where a search did not end by its trials.
+pub fn more_trials_change_nothing()
+    ensures { MoreChangeNothing }
+{}
+
+/// Where one of the strings has no work variable it doesn't matter which of them is on the left.
+pub fn sides_do_not_matter()
+    ensures { HasNoSides }
+{}
