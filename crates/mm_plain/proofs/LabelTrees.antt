@@ -93,17 +93,17 @@ labels_in-tree_of bytes labels x h =
 
 -- and its steps fit, where the labels may stand
 
-known_fits : (bytes : List ℕ) (at id : ℕ) (kids : List Plain) → Each (AreFitting bytes at) kids → may_stand bytes at id ≡ true → length kids ≡ length (premises_of bytes id)
-    → AreFitting bytes at (known [] id [] kids)
+pub known_fits : (bytes : List ℕ) (at : ℕ) (t : List WSym) (id : ℕ) (s : Pairs) (kids : List Plain) → Each (AreFitting bytes at) kids → may_stand bytes at id ≡ true → length kids ≡ length (premises_of bytes id)
+    → AreFitting bytes at (known t id s kids)
 unfolding AreFitting
-known_fits bytes at id kids e h g = subst (Each (IsFitting bytes at)) (sym (steps_of-known [] id [] kids))
-    (each-join (IsFitting bytes at) (flat_map steps_of kids) (known [] id [] kids ∷ []) (all kids e) (known-fitting bytes at [] id [] kids h g, tt))
+known_fits bytes at t id s kids e h g = subst (Each (IsFitting bytes at)) (sym (steps_of-known t id s kids))
+    (each-join (IsFitting bytes at) (flat_map steps_of kids) (known t id s kids ∷ []) (all kids e) (known-fitting bytes at t id s kids h g, tt))
   where
     all : (xs : List Plain) → Each (AreFitting bytes at) xs → Each (IsFitting bytes at) (flat_map steps_of xs)
     all [] f = tt
     all (x ∷ xs) f = subst (Each (IsFitting bytes at)) (sym (flat_map-cons steps_of x xs)) (each-join (IsFitting bytes at) (steps_of x) (flat_map steps_of xs) f.0 (all xs f.1))
 
-unknown_fits : (bytes : List ℕ) (at : ℕ) (t : List WSym) → AreFitting bytes at (unknown t)
+pub unknown_fits : (bytes : List ℕ) (at : ℕ) (t : List WSym) → AreFitting bytes at (unknown t)
 unfolding AreFitting
 unknown_fits bytes at t = subst (Each (IsFitting bytes at)) (sym (steps_of-unknown t)) (unknown-fitting bytes at t, tt)
 
@@ -122,7 +122,7 @@ tree_fits : (bytes : List ℕ) (at : ℕ) (xs : List Plain) (o : Option ℕ) →
 tree_fits bytes at xs None e h room = unknown_fits bytes at []
 tree_fits bytes at xs (Some id) e h room =
     let k : ℕ = length xs - length (premises_of bytes id) in
-    known_fits bytes at id (drop k xs) (each_drop (AreFitting bytes at) k xs e) h (takes_some bytes xs id room)
+    known_fits bytes at [] id [] (drop k xs) (each_drop (AreFitting bytes at) k xs e) h (takes_some bytes xs id room)
 
 all_fit : (bytes : List ℕ) (at : ℕ) (xs ys : List Plain) (os : List (Option ℕ)) → Each (AreFitting bytes at) xs → ByRecursion (MayStand bytes at) os
     → with_labels bytes xs os ≡ Some ys → Each (AreFitting bytes at) ys

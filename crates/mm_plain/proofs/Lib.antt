@@ -25,3 +25,7 @@ pub mod Fresh
 pub mod Drawing
 pub mod LabelTrees
 pub mod Puts
+pub mod Nested
+pub mod Children
+pub mod Rows
+pub mod Instances

@@ -10,3 +10,5 @@ pub mod Lengths
 pub mod Grafts
 pub mod Drawing
 pub mod LabelTrees
+pub mod Rows
+pub mod Instances

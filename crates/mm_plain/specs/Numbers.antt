@@ -1,9 +1,9 @@
--- The numbers of steps: of those that are unknown, and of those that are pending.
-use Rattle.std.specs.Prelude.{ℕ, ◌+◌, ◌<◌, Bool, List, [], ◌∷◌, map, length, count_by, is_none, Option, None, Some, if◌then◌else◌}
-use Rattle.std.specs.List.{last_or}
+-- The numbers of steps: of those that are unknown, of those that are pending, and of those of a part.
+use Rattle.std.specs.Prelude.{ℕ, ◌+◌, ◌-◌, ◌<◌, Bool, List, [], ◌∷◌, map, length, take, count_by, is_none, Option, None, Some, if◌then◌else◌}
+use Rattle.std.specs.List.{last_or, sum_by}
 use Rattle.mm_scope.specs.Contents.{labels_of}
 use Rattle.mm_plain.specs.declared.plain.Plain.{Plain}
-use Rattle.mm_plain.specs.Shape.{Each, steps_of}
+use Rattle.mm_plain.specs.Shape.{Each, steps_of, step_at, size_of}
 use Rattle.mm_plain.specs.Sources.{label_of, is_pending}
 
 -- the numbers of the items that meet a test, where the first item has the number n
@@ -31,6 +31,14 @@ last_unknown_of labels = last_or None (numbers_from is_none 1 labels)
 -- the numbers of the pending steps, in order
 abbrev pub pending_in : List ℕ → Plain → List ℕ
 pending_in bytes x = numbers_from (is_pending bytes) 1 (steps_of x)
+
+-- the number that step j of the part at step k has in the whole
+abbrev pub number_in : Plain → ℕ → ℕ → ℕ
+number_in x k j = k - size_of (step_at x k) + j
+
+-- the number of a child, by its index, in the part of its parent
+abbrev pub number_of_child : List Plain → ℕ → ℕ
+number_of_child kids i = sum_by size_of (take (i + 1) kids)
 
 abbrev pub IsOwnLabel : List ℕ → Option ℕ → Type 0
 IsOwnLabel bytes None = Unit {0}

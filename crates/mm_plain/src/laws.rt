@@ -1,20 +1,23 @@
 //! What holds of plain proofs.
 
-ghost use Rattle.std.specs.Prelude.{◌≡◌, ◌+◌, ◌<◌, ◌≤◌, max, ℕ, false, true, All, List, Option, None, Some, map, length};
+ghost use Rattle.std.specs.Prelude.{◌≡◌, ◌+◌, ◌-◌, ◌<◌, ◌≤◌, ◌++◌, max, ℕ, false, true, All, List, [], ◌∷◌, Option, None, Some, drop, get_or, length, map, reverse, take};
 ghost use Rattle.std.specs.List.{sum_by};
 ghost use Rattle.std.specs.Option.{option_map};
 ghost use Rattle.mm_scope.specs.Contents.{labels_of};
 ghost use Rattle.mm_plain.specs.Binding.{HasWorkKeys, IsBinding, bound, bound_in, has_works};
 ghost use Rattle.mm_plain.specs.Drawing.{AreFitting, draws_by, draws_of, fresh_for, placed_fresh, with_fresh, with_fresh_in};
 ghost use Rattle.mm_plain.specs.Grafts.{HasWorksBelow, cleared, cleared_in, grafted_in, part_at, raised};
-ghost use Rattle.mm_plain.specs.LabelTrees.{MayStand, fresh_by, fresh_proof, fresh_proof_of, tree_of};
+ghost use Rattle.mm_plain.specs.Instances.{numbered, values_in};
+ghost use Rattle.mm_plain.specs.LabelTrees.{MayStand, bare, fresh_by, fresh_proof, fresh_proof_of, tree_of};
 ghost use Rattle.mm_plain.specs.Lengths.{first_long};
-ghost use Rattle.mm_plain.specs.Numbers.{HasOwnLabels, labels_in};
-ghost use Rattle.mm_plain.specs.Shape.{Proof, depth_at, depths_of, placed, put, size_of, height_of, step_at, steps_of, target_of};
+ghost use Rattle.mm_plain.specs.Numbers.{HasOwnLabels, labels_in, number_in, number_of_child};
+ghost use Rattle.mm_plain.specs.Shape.{Proof, depth_at, depths_of, known, placed, put, size_of, height_of, step_at, steps_of, target_of};
 ghost use Rattle.mm_plain.specs.Sources.{sigma_of, source_of};
+ghost use Rattle.mm_plain.specs.Rows.{fresh_rows, rows_of, with_rows};
 ghost use Rattle.mm_plain.specs.Premises.{may_stand, premises_of, variables_for};
 ghost use Rattle.mm_plain.specs.Valid.{Fits, IsString, IsValid, Setting, first_setting, most_levels, most_steps, most_works, placed_in, setting_of};
 ghost use Rattle.mm_subst.specs.Substitutions.{Pairs, applied, then_by};
+ghost use Rattle.mm_subst.specs.Symbols.{has_work};
 ghost use Rattle.mm_subst.specs.declared.symbol.WSym.{WSym};
 ghost use Rattle.mm_plain.specs.declared.plain.Plain.{Plain};
 
@@ -103,12 +106,50 @@ pub fn fresh_work_variables_fit(bytes: &[u8])
 /// tree. It is valid for a goal without work variables, where each label may stand in the proof, and it isn't too large.
 pub fn labels_begin_valid_proofs(bytes: &[u8])
     ensures labels { (goal : List WSym) (labels : List (Option ℕ)) (p : Proof) → fresh_proof_of bytes.now goal labels ≡ Some p → labels_in p.plain ≡ labels }
+    ensures tree { (at : ℕ) (x : Plain) → AreFitting bytes.now at x → tree_of bytes.now (labels_in x) ≡ Some (bare x) }
     ensures own { (at : ℕ) (goal : List WSym) (x : Plain) → AreFitting bytes.now at x → fresh_proof_of bytes.now goal (labels_in x) ≡ Some (fresh_proof bytes.now goal x) }
     ensures size { (goal : List WSym) (labels : List (Option ℕ)) (p : Proof) → fresh_proof_of bytes.now goal labels ≡ Some p → size_of p.plain ≡ length labels }
     ensures height { (goal : List WSym) (labels : List (Option ℕ)) (x : Plain) (p : Proof) → tree_of bytes.now labels ≡ Some x → fresh_proof_of bytes.now goal labels ≡ Some p → height_of p.plain ≡ height_of x }
     ensures drawn { (goal : List WSym) (labels : List (Option ℕ)) (p : Proof) → fresh_proof_of bytes.now goal labels ≡ Some p → map sigma_of (steps_of p.plain) ≡ fresh_by bytes.now 1 labels }
     ensures next { (goal : List WSym) (labels : List (Option ℕ)) (p : Proof) → fresh_proof_of bytes.now goal labels ≡ Some p → p.next ≡ 1 + sum_by (draws_by bytes.now) labels }
     ensures valid { (at : ℕ) (goal : List WSym) (labels : List (Option ℕ)) (p : Proof) → fresh_proof_of bytes.now goal labels ≡ Some p → All (MayStand bytes.now at) labels → IsString (first_setting bytes.now at) goal → length labels ≤ most_steps → height_of p.plain ≤ most_levels → p.next ≤ most_works + 1 → IsValid bytes.now at goal p }
+{
+    let _ = bytes;
+}
+
+/// Step j of the part at a step is a step of the whole, j numbers after where the part begins. It may be replaced in either,
+/// and its depth is that of the part and its own there. A child of a step stands where its tree ends. A tree that is put in
+/// the place of a step stands there, and another may be put in its place. The labels of a part are a run of those of the
+/// whole; the labels of a tree in its place come between those before it and those after it.
+pub fn parts_are_nested()
+    ensures step { (x : Plain) (k j : ℕ) → 1 ≤ k → k ≤ size_of x → 1 ≤ j → j ≤ size_of (step_at x k) → step_at x (number_in x k j) ≡ step_at (step_at x k) j }
+    ensures puts { (new x : Plain) (k j : ℕ) → 1 ≤ k → k ≤ size_of x → 1 ≤ j → j ≤ size_of (step_at x k) → put x (number_in x k j) new ≡ put x k (put (step_at x k) j new) }
+    ensures depth { (x : Plain) (k j : ℕ) → 1 ≤ k → k ≤ size_of x → 1 ≤ j → j ≤ size_of (step_at x k) → depth_at x (number_in x k j) ≡ depth_at x k + depth_at (step_at x k) j }
+    ensures child { (x : Plain) (k : ℕ) (t : List WSym) (l : ℕ) (s : Pairs) (kids : List Plain) (i : ℕ) (d : Plain) → 1 ≤ k → k ≤ size_of x → step_at x k ≡ known t l s kids → i < length kids → step_at x (number_in x k (number_of_child kids i)) ≡ get_or kids i d }
+    ensures stands { (new x : Plain) (k j : ℕ) → 1 ≤ k → k ≤ size_of x → 1 ≤ j → j ≤ size_of new → step_at (put x k new) (number_in x k j) ≡ step_at new j }
+    ensures again { (a b x : Plain) (k : ℕ) → 1 ≤ k → k ≤ size_of x → put (put x k a) (number_in x k (size_of a)) b ≡ put x k b }
+    ensures run { (x : Plain) (k : ℕ) → 1 ≤ k → k ≤ size_of x → labels_in (step_at x k) ≡ take (size_of (step_at x k)) (drop (k - size_of (step_at x k)) (labels_in x)) }
+    ensures labels { (new x : Plain) (k : ℕ) → 1 ≤ k → k ≤ size_of x → labels_in (put x k new) ≡ take (k - size_of (step_at x k)) (labels_in x) ++ (labels_in new ++ drop k (labels_in x)) }
+{}
+
+/// A valid proof of a goal without work variables is what one substitution makes of the proof that its labels begin: the
+/// one by which the values of its steps stand, in postorder, for the work variables from 1 on.
+pub fn valid_proofs_are_instances(bytes: &[u8])
+    ensures instance { (at : ℕ) (goal : List WSym) (p : Proof) → IsValid bytes.now at goal p → has_work goal ≡ false → bound (numbered 1 (values_in p.plain)) (fresh_proof bytes.now goal p.plain).plain ≡ p.plain }
+    ensures counted { (at : ℕ) (goal : List WSym) (p : Proof) → IsValid bytes.now at goal p → length (values_in p.plain) ≡ draws_of bytes.now p.plain }
+{
+    let _ = bytes;
+}
+
+/// A tree whose steps fit is made of its rows, one after another: each takes the last trees that stand. With fresh work
+/// variables its rows follow, from the last to the first, from its labels, a target and the number of the next work variable
+/// after it. So it is with the part at a step of a valid proof, and with the proof that labels begin.
+pub fn rows_follow_from_labels(bytes: &[u8])
+    ensures made { (at : ℕ) (x : Plain) → AreFitting bytes.now at x → with_rows bytes.now [] (rows_of x) ≡ x ∷ [] }
+    ensures rows { (at : ℕ) (x : Plain) → AreFitting bytes.now at x → (n : ℕ) (t : List WSym) → reverse (rows_of (with_fresh bytes.now x n t)) ≡ fresh_rows bytes.now (n + draws_of bytes.now x) (t ∷ []) (reverse (labels_in x)) }
+    ensures fresh { (at : ℕ) (x : Plain) → AreFitting bytes.now at x → (n : ℕ) (t : List WSym) → AreFitting bytes.now at (with_fresh bytes.now x n t) }
+    ensures part { (at k : ℕ) (goal : List WSym) (p : Proof) → IsValid bytes.now at goal p → 1 ≤ k → k ≤ size_of p.plain → AreFitting bytes.now at (step_at p.plain k) }
+    ensures begun { (at : ℕ) (goal : List WSym) (labels : List (Option ℕ)) (p : Proof) → fresh_proof_of bytes.now goal labels ≡ Some p → All (MayStand bytes.now at) labels → (with_rows bytes.now [] (rows_of p.plain) ≡ p.plain ∷ []) × (reverse (rows_of p.plain) ≡ fresh_rows bytes.now p.next (goal ∷ []) (reverse labels)) }
 {
     let _ = bytes;
 }

@@ -8,8 +8,9 @@ mod plain;
 mod statements;
 
 pub use laws::{
-    fresh_work_variables_fit, heights_add_up, labels_begin_valid_proofs, sizes_add_up,
-    substitutions_keep_the_shape, valid_proofs_have_valid_parts, valid_proofs_name_own_statements,
+    fresh_work_variables_fit, heights_add_up, labels_begin_valid_proofs, parts_are_nested,
+    rows_follow_from_labels, sizes_add_up, substitutions_keep_the_shape,
+    valid_proofs_are_instances, valid_proofs_have_valid_parts, valid_proofs_name_own_statements,
     valid_proofs_stay_valid, valid_proofs_stay_valid_under_substitutions,
     work_variables_alone_change,
 };

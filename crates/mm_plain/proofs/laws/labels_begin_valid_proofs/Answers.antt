@@ -1,8 +1,11 @@
-use Rattle.mm_plain.proofs.LabelTrees.{fresh_proof_of-labels_in, labels-begun, size-begun, height-begun, next-begun, sigmas-begun, valid-begun}
+use Rattle.mm_plain.proofs.LabelTrees.{tree_of-labels_in, fresh_proof_of-labels_in, labels-begun, size-begun, height-begun, next-begun, sigmas-begun, valid-begun}
 use Rattle.mm_plain.proofs.laws.labels_begin_valid_proofs.Goals as goal
 
 pub returns-clause-labels : goal.returns-clause-labels
 returns-clause-labels c = labels-begun c.args.bytes.now
+
+pub returns-clause-tree : goal.returns-clause-tree
+returns-clause-tree c = tree_of-labels_in c.args.bytes.now
 
 pub returns-clause-own : goal.returns-clause-own
 returns-clause-own c = fresh_proof_of-labels_in c.args.bytes.now
