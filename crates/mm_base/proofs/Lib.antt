@@ -4,3 +4,4 @@ pub mod RecorderLemmas
 pub mod SinkLemmas
 pub mod SourceLemmas
 pub mod StoreLemmas
+pub mod Refusing

@@ -4,5 +4,6 @@ pub mod Name
 pub mod Outside
 pub mod Recorder
 pub mod Places
+pub mod Refusals
 pub mod Sink
 pub mod Source

@@ -8,3 +8,12 @@ pub mod Outcomes
 pub mod Naming
 pub mod Kept
 pub mod Pending
+pub mod Unifiers
+pub mod Applied
+pub mod Assigning
+pub mod Letting
+pub mod Unifying
+pub mod Falling
+pub mod Initializing
+pub mod Deleting
+pub mod Replacing

@@ -2,3 +2,13 @@ pub mod Ways
 pub mod Outcome
 pub mod Faults
 pub mod Counts
+pub mod Steps
+pub mod Listed
+pub mod Applying
+pub mod Assigning
+pub mod Replacing
+pub mod Letting
+pub mod Unifying
+pub mod Initializing
+pub mod Deleting
+pub mod Keeping

@@ -24,6 +24,7 @@ pub mod Grafts
 pub mod Fresh
 pub mod Drawing
 pub mod LabelTrees
+pub mod Puts
 pub mod Nested
 pub mod Children
 pub mod Rows

@@ -4,12 +4,12 @@ use Rattle.mm_tokens.specs.declared.pieces.Token.{Token}
 use Rattle.mm_tokens.specs.declared.pieces.Piece.{Piece}
 use Rattle.mm_tokens.specs.Pieces.{pieces_of, open_in}
 use Rattle.mm_tokens.specs.Words.{word_of}
-use Rattle.mm_scope.specs.Contents.{events_in, events_of}
+use Rattle.mm_scope.specs.Contents.{events_in, events_of, statements_of, stated_at}
 use Rattle.mm_scope.specs.Events.{Event, put, symbols, labels, statements, hypothesis_moves, variable_moves, distinct_moves, open_blocks}
 use Rattle.mm_scope.specs.Until.{until_at}
 use Rattle.mm_scope.specs.Steps.{State}
 use Rattle.mm_scope.specs.Contexts.{Context, Fails, add_to, answers, empty_state}
-use Rattle.mm_scope.specs.Laws.{LabelsDiffer}
+use Rattle.mm_scope.specs.Laws.{LabelsDiffer, AllDiffer, VariablesDiffer}
 use Rattle.mm_scope.specs.Looks.{look_back, moves, constants, is_active_of, is_floated_of}
 use Rattle.mm_tables.specs.Layered.{layered}
 use Rattle.mm_tables.specs.Moves.{in_force}
@@ -30,6 +30,8 @@ use Rattle.mm_scope.proofs.Floats.{FloatsKnown, essential_moves, last_float}
 use Rattle.mm_scope.proofs.Hypotheses.{HypothesesAgree, counts_of}
 use Rattle.mm_scope.proofs.Layering.{LayersAgree, knowns}
 use Rattle.mm_scope.proofs.Sound.{SoundAt}
+use Rattle.mm_stated.specs.Mandatory.{variables_of}
+use Rattle.mm_scope.proofs.Differing.{differ_at}
 use Rattle.mm_scope.proofs.Held.{Held}
 use Rattle.std.proofs.lemmas.List.Elements.{All-nil}
 use Rattle.mm_scope.proofs.Natural.{mapped, map_ok}
@@ -91,7 +93,7 @@ unfolding hypothesis_moves in_force
 floats_nothing k v on it = absurd (false≢true on)
 
 good_nothing : Good nothing_read
-good_nothing = record { held = record { agrees = agrees_nothing; hypotheses = hypotheses_nothing; sound = sound_nothing; differ = tt; layers = layers_nothing; floats = floats_nothing; constants = tt }; fresh = tt; ready = tt }
+good_nothing = record { held = record { agrees = agrees_nothing; hypotheses = hypotheses_nothing; sound = sound_nothing; differ = tt; layers = layers_nothing; floats = floats_nothing; constants = tt; one_float = tt }; fresh = tt; ready = tt }
 
 kept : (bytes : List ℕ) (s : State (List Event)) (k : Token) → Good s → IfFine (step put look_back bytes s k) Good
 kept bytes s k g = step_keeps s (word_of (text_of bytes k)) (text_of bytes k) k.start g
@@ -193,3 +195,7 @@ labels_differ = of_each LabelsDiffer tt (λ past h. h.differ)
 
 pub constants_are_new : (bytes : List ℕ) → ConstantsAreNew (events_of bytes)
 constants_are_new = of_each ConstantsAreNew tt (λ past h. h.constants)
+
+pub variables_differ : (bytes : List ℕ) (id : ℕ) → AllDiffer (variables_of (statements_of bytes) (stated_at bytes id).mandatory)
+unfolding statements_of
+variables_differ bytes id = differ_at (events_of bytes) (of_each VariablesDiffer tt (λ past h. h.one_float) bytes) id

@@ -40,7 +40,7 @@ abbrev pub Low : ℕ → List ℕ → Type 0
 Low n [] = Unit {0}
 Low n (x ∷ xs) = (x < n) × Low n xs
 
-raised : (m n : ℕ) (xs : List ℕ) → m ≤ n → Low m xs → Low n xs
+pub raised : (m n : ℕ) (xs : List ℕ) → m ≤ n → Low m xs → Low n xs
 raised m n [] h low = tt
 raised m n (x ∷ xs) h low = (omega (arith, h, low.0), raised m n xs h low.1)
 
@@ -74,7 +74,7 @@ filter_push p (y ∷ ys) x = by (p y) (filter_push p ys x)
     by true rest = ap (λ zs. y ∷ zs) rest
     by false rest = rest
 
-one_more : (ls : List (List ℕ)) (l : List ℕ) → length ls ≤ length (ls ++ l ∷ [])
+pub one_more : (ls : List (List ℕ)) (l : List ℕ) → length ls ≤ length (ls ++ l ∷ [])
 one_more ls l = omega (arith, length-append ls (l ∷ []))
 
 last_low : (ls : List (List ℕ)) (l : List ℕ) → length ls < length (ls ++ l ∷ [])
@@ -115,7 +115,7 @@ active_rises n (closed ∷ past) = active_rises (suc n) past
 both_more : (ss : List Stated) (x : Stated) (ls : List (List ℕ)) (l : List ℕ) → length ss ≡ length ls → length (ss ++ x ∷ []) ≡ length (ls ++ l ∷ [])
 both_more ss x ls l same = omega (arith, length-append ss (x ∷ []), length-append ls (l ∷ []), same)
 
-counted : (past : List Event) → length (statements past) ≡ length (labels past)
+pub counted : (past : List Event) → length (statements past) ≡ length (labels past)
 unfolding statements labels
 counted [] = refl
 counted (constant t m ∷ past) = counted past
@@ -129,10 +129,10 @@ counted (asserted l ss d ∷ past) = both_more (statements past) _ (labels past)
 counted (theorem l ss from to d ∷ past) = both_more (statements past) _ (labels past) l (counted past)
 
 -- an earlier statement, and the new one
-kept_at : (past : List Event) (x : Stated) (k : ℕ) → k < length (labels past) → statement_at (statements past ++ x ∷ []) k ≡ statement_at (statements past) k
+pub kept_at : (past : List Event) (x : Stated) (k : ℕ) → k < length (labels past) → statement_at (statements past ++ x ∷ []) k ≡ statement_at (statements past) k
 kept_at past x k h = get_or_append_left (statements past) (x ∷ []) no_statement k (omega (arith, h, counted past))
 
-new_at : (past : List Event) (x : Stated) → statement_at (statements past ++ x ∷ []) (length (labels past)) ≡ x
+pub new_at : (past : List Event) (x : Stated) → statement_at (statements past ++ x ∷ []) (length (labels past)) ≡ x
 new_at past x = subst (λ n. statement_at (statements past ++ x ∷ []) n ≡ x) (counted past) (get_or-append_seam (statements past) x [] no_statement)
 
 still_floats : (past : List Event) (x : Stated) (k v : ℕ) → k < length (labels past) → floats_it (statements past ++ x ∷ []) k v ≡ floats_it (statements past) k v

@@ -6,12 +6,13 @@ use Rattle.std.specs.Str.{bytes_eq}
 use Rattle.mm_tokens.specs.declared.pieces.Span.{Span}
 use Rattle.mm_scope.specs.Contexts.{Context, add_to}
 use Rattle.mm_scope.specs.Events.{Event, constant, variable, float, essential, asserted, theorem, distinct, opened, closed, symbols, labels, statements, hypothesis_moves, active_hypotheses, open_blocks}
-use Rattle.mm_scope.specs.Laws.{LabelsDiffer}
+use Rattle.mm_scope.specs.Laws.{LabelsDiffer, VariablesDiffer}
 use Rattle.mm_scope.specs.Looks.{known_as}
 use Rattle.mm_stated.specs.declared.statement.Kind.{Kind}
 use Rattle.mm_stated.specs.declared.statement.Kind.TheVariants as kind
 use Rattle.mm_scope.proofs.Agreements.{IsReady, not_there, agrees_constant, agrees_variable, agrees_float, agrees_essential, agrees_asserted, agrees_theorem, agrees_distinct}
 use Rattle.mm_scope.proofs.Candidates.{needed_is}
+use Rattle.mm_scope.proofs.Differing.{one_float_each}
 use Rattle.mm_scope.proofs.Floats.{FloatsKnown, last_float, known_float, known_essential, known_asserted, known_theorem, known_opened, known_closed}
 use Rattle.mm_scope.proofs.Hypotheses.{HypothesesAgree, forced, same_hypotheses, hypotheses_opened, hypotheses_closed, hypotheses_stated, hypotheses_asserted}
 use Rattle.mm_scope.proofs.Simulation.{Agrees, Last, split_last, deep_of, closing, agrees_opened, agrees_closed}
@@ -29,6 +30,7 @@ pub record Held (past : List Event) : Type 0 where
   pub layers : LayersAgree past (context_at past)
   pub floats : FloatsKnown past
   pub constants : ConstantsAreNew past
+  pub one_float : VariablesDiffer past
 
 one_label : (l : List ℕ) (ls : List (List ℕ)) → length (ls ++ l ∷ []) ≡ length ls + 1
 one_label l ls = omega (arith, length-append ls (l ∷ []))
@@ -54,6 +56,7 @@ held_constant past t r e off h = record {
   layers = layers_constant past (context_at past) t (known_as past t r).number h.layers;
   floats = h.floats;
   constants = (new_number past t r e off, h.constants);
+  one_float = h.one_float;
 }
 
 new_variable : (past : List Event) (t : List ℕ) (r : Option ℕ) → position (bytes_eq t) (symbols past) ≡ r → (known_as past t r).active ≡ false
@@ -72,6 +75,7 @@ held_variable past t r e off h = record {
   layers = layers_variable past (context_at past) t (known_as past t r).number h.layers;
   floats = h.floats;
   constants = h.constants;
+  one_float = h.one_float;
 }
 
 pub held_distinct : (past : List Event) (ss : List ℕ) → Held past → Held (distinct ss ∷ past)
@@ -84,6 +88,7 @@ held_distinct past ss h = record {
   layers = layers_distinct past (context_at past) ss h.layers;
   floats = h.floats;
   constants = h.constants;
+  one_float = h.one_float;
 }
 
 pub held_float : (past : List Event) (l ss : List ℕ) (d : Option Span) → list_any (bytes_eq l) (labels past) ≡ false → IsReady past (slice_index ss 1) → length ss ≡ 2
@@ -97,6 +102,7 @@ held_float past l ss d fresh ready two h = record {
   layers = layers_float past (context_at past) l ss d h.agrees.labelled h.agrees.texts h.layers;
   floats = known_float past l ss d ready.1 h.floats;
   constants = h.constants;
+  one_float = h.one_float;
 }
 
 not_float : kind.Essential ≡ kind.Float → {n : ℕ} → n ≡ 2
@@ -117,6 +123,7 @@ held_essential past l ss d fresh some h = record {
   layers = layers_essential past (context_at past) l ss d h.agrees.labelled h.agrees.texts h.layers;
   floats = known_essential past l ss d h.floats;
   constants = h.constants;
+  one_float = h.one_float;
 }
 
 pub held_asserted : (past : List Event) (l ss : List ℕ) (d : Option Span) → list_any (bytes_eq l) (labels past) ≡ false → 0 < length ss
@@ -132,6 +139,7 @@ held_asserted past l ss d fresh some h =
       layers = layers_asserted past (context_at past) l ss d h.agrees.texts h.layers;
       floats = known_asserted past l ss d h.floats;
       constants = h.constants;
+      one_float = (one_float_each past ss h.floats, h.one_float);
     }
 
 pub held_theorem : (past : List Event) (l ss : List ℕ) (from to : ℕ) (d : Option Span) → list_any (bytes_eq l) (labels past) ≡ false → 0 < length ss
@@ -147,6 +155,7 @@ held_theorem past l ss from to d fresh some h =
       layers = layers_theorem past (context_at past) l ss from to d h.agrees.texts h.layers;
       floats = known_theorem past l ss from to d h.floats;
       constants = h.constants;
+      one_float = (one_float_each past ss h.floats, h.one_float);
     }
 
 opened_sound : (past : List Event) (p : ℕ) → SoundAt past (context_at past) → SoundAt (opened p ∷ past) (add_to (context_at past) (opened p))
@@ -167,6 +176,7 @@ held_opened past p h = record {
   layers = layers_opened past (context_at past) p h.layers;
   floats = known_opened past p h.floats;
   constants = h.constants;
+  one_float = h.one_float;
 }
 
 pub held_closed : (past : List Event) → 0 < length (open_blocks past) → Held past → Held (closed ∷ past)
@@ -182,4 +192,5 @@ held_closed past some h =
       layers = layers_closed past c h.layers;
       floats = known_closed past h.floats;
       constants = h.constants;
+      one_float = h.one_float;
     }

@@ -18,6 +18,7 @@ mod Floats
 mod Candidates
 mod SymbolsThen
 mod Moments
+mod Differing
 mod Held
 mod Kept
 mod Ordered

@@ -1,8 +1,9 @@
 -- What holds of each database that is read.
-use Rattle.std.specs.Prelude.{◌≡◌, ◌≤◌, ℕ, false, suc, ◌⊎◌, List, [], ◌∷◌, ◌++◌, All, Some, slice_get}
+use Rattle.std.specs.Prelude.{◌≡◌, ◌≤◌, ◌==◌, ℕ, false, suc, ◌⊎◌, List, [], ◌∷◌, ◌++◌, All, Some, slice_get}
 use Rattle.std.specs.List.{list_any}
 use Rattle.std.specs.Str.{bytes_eq}
-use Rattle.mm_scope.specs.Events.{Event, constant, variable, float, essential, asserted, theorem, distinct, opened, closed, symbols, labels}
+use Rattle.mm_stated.specs.Mandatory.{mandatory_of, variables_of}
+use Rattle.mm_scope.specs.Events.{Event, constant, variable, float, essential, asserted, theorem, distinct, opened, closed, symbols, labels, statements, active_hypotheses}
 
 -- how many blocks begin, and how many end
 unfoldable pub openings : List Event → ℕ
@@ -66,3 +67,19 @@ LabelsDiffer (essential l ss d ∷ past) = (list_any (bytes_eq l) (labels past) 
 LabelsDiffer (asserted l ss d ∷ past) = (list_any (bytes_eq l) (labels past) ≡ false) × LabelsDiffer past
 LabelsDiffer (theorem l ss from to d ∷ past) = (list_any (bytes_eq l) (labels past) ≡ false) × LabelsDiffer past
 LabelsDiffer (_ ∷ past) = LabelsDiffer past
+
+-- no number comes twice
+abbrev pub AllDiffer : List ℕ → Type 0
+AllDiffer [] = Unit {0}
+AllDiffer (n ∷ ns) = (list_any (λ m. n == m) ns ≡ false) × AllDiffer ns
+
+-- of no assertion with these symbols, where these statements were read, is a variable mandatory by two `$f`
+abbrev pub HasOneFloatEach : List Event → List ℕ → Type 0
+HasOneFloatEach past ss = AllDiffer (variables_of (statements past) (mandatory_of (statements past) (active_hypotheses past) ss))
+
+-- the mandatory variables of each assertion differ
+abbrev pub VariablesDiffer : List Event → Type 0
+VariablesDiffer [] = Unit {0}
+VariablesDiffer (asserted l ss d ∷ past) = HasOneFloatEach past ss × VariablesDiffer past
+VariablesDiffer (theorem l ss from to d ∷ past) = HasOneFloatEach past ss × VariablesDiffer past
+VariablesDiffer (_ ∷ past) = VariablesDiffer past

@@ -1,9 +1,10 @@
 //! What holds of each database.
 
-ghost use Rattle.std.specs.Prelude.{◌+◌, ◌≡◌, take};
-ghost use Rattle.mm_scope.specs.Contents.{events_of};
+ghost use Rattle.std.specs.Prelude.{◌+◌, ◌≡◌, ℕ, take};
+ghost use Rattle.mm_stated.specs.Mandatory.{variables_of};
+ghost use Rattle.mm_scope.specs.Contents.{events_of, statements_of, stated_at};
 ghost use Rattle.mm_scope.specs.Databases.{database_of};
-ghost use Rattle.mm_scope.specs.Laws.{SymbolsAreActive, SymbolsAreNumbered, LabelsDiffer};
+ghost use Rattle.mm_scope.specs.Laws.{SymbolsAreActive, SymbolsAreNumbered, LabelsDiffer, AllDiffer};
 ghost use Rattle.mm_scope.specs.Events.{symbols};
 ghost use Rattle.mm_scope.specs.Judged.{most_bytes};
 
@@ -26,6 +27,13 @@ pub fn symbols_are_declared(bytes: &[u8])
 /// No two labelled statements have the same label.
 pub fn labels_differ(bytes: &[u8])
     ensures { LabelsDiffer (events_of bytes.now) }
+{
+    let _ = bytes;
+}
+
+/// The mandatory variables of an assertion differ: no variable is mandatory by two `$f`.
+pub fn mandatory_variables_differ(bytes: &[u8])
+    ensures { (id : ℕ) → AllDiffer (variables_of (statements_of bytes.now) (stated_at bytes.now id).mandatory) }
 {
     let _ = bytes;
 }

@@ -18,7 +18,9 @@ pub use database::{Database, StmtId, Sym};
 pub use fault::ReadFault;
 pub use file::MOST_BYTES;
 pub use frame::{Active, ActivePairs, Frame, Ids, Pairs, Symbols};
-pub use laws::{first_bytes_decide, labels_differ, symbols_are_declared};
+pub use laws::{
+    first_bytes_decide, labels_differ, mandatory_variables_differ, symbols_are_declared,
+};
 pub use mm_stated::Kind;
 pub use mm_tokens::white_space_folds;
 pub use reader::{MOST_LABEL, MOST_SYMBOLS};

@@ -1,0 +1,37 @@
+//! What holds of each edit.
+
+ghost use Rattle.std.specs.Prelude.{◌≡◌, ℕ, List, Option, Ok, None, All};
+ghost use Rattle.mm_subst.specs.declared.symbol.WSym.{WSym};
+ghost use Rattle.mm_unify.specs.declared.listing.Settings.{Settings};
+ghost use Rattle.mm_plain.specs.Shape.{Proof, steps_of};
+ghost use Rattle.mm_plain.specs.Valid.{IsKnownSymbol, IsString, setting_of};
+ghost use Rattle.mm_edit.specs.Assigning.{assigned};
+ghost use Rattle.mm_edit.specs.Deleting.{deleted, floats_deleted};
+ghost use Rattle.mm_edit.specs.Initializing.{initialized};
+ghost use Rattle.mm_edit.specs.Keeping.{IsKept, IsProofOf};
+ghost use Rattle.mm_edit.specs.Letting.{step_let, variable_let};
+ghost use Rattle.mm_edit.specs.Replacing.{replaced};
+ghost use Rattle.mm_edit.specs.Unifying.{all_unified, first_unifier, step_unified};
+
+/// Each accepted edit of a valid proof gives a valid proof of the same goal, and its counter of work variables never
+/// falls. What is let for a work variable or for a step has symbols of the database, and work variables that were drawn.
+pub fn accepted_edits_keep_proofs_valid(bytes: &[u8])
+    ensures assigned { (at k id : ℕ) (set : Settings) (goal : List WSym) (p q : Proof) → IsProofOf bytes.now at goal p → assigned bytes.now at set p k id ≡ Ok q → IsKept bytes.now at goal p q }
+    ensures replaced { (at k id : ℕ) (set : Settings) (goal : List WSym) (p q : Proof) → IsProofOf bytes.now at goal p → replaced bytes.now at set p k id ≡ Ok q → IsKept bytes.now at goal p q }
+    ensures variable_let { (at n : ℕ) (goal value : List WSym) (p q : Proof) → IsProofOf bytes.now at goal p → All (IsKnownSymbol (setting_of bytes.now at p)) value → variable_let bytes.now p n value ≡ Ok q → IsKept bytes.now at goal p q }
+    ensures step_let { (at k : ℕ) (set : Settings) (goal text : List WSym) (p q : Proof) → IsProofOf bytes.now at goal p → IsString (setting_of bytes.now at p) text → step_let bytes.now set p k text ≡ Ok q → IsKept bytes.now at goal p q }
+    ensures step_unified { (at k : ℕ) (set : Settings) (choice : Option ℕ) (goal : List WSym) (p q : Proof) → IsProofOf bytes.now at goal p → step_unified bytes.now set p k choice ≡ Ok q → IsKept bytes.now at goal p q }
+    ensures all_unified { (at : ℕ) (set : Settings) (goal : List WSym) (p q : Proof) → IsProofOf bytes.now at goal p → all_unified bytes.now set p ≡ Ok q → IsKept bytes.now at goal p q }
+    ensures initialized { (at k : ℕ) (goal : List WSym) (p q : Proof) → IsProofOf bytes.now at goal p → initialized bytes.now p k ≡ Ok q → IsKept bytes.now at goal p q }
+    ensures deleted { (at k : ℕ) (goal : List WSym) (p q : Proof) → IsProofOf bytes.now at goal p → deleted p k ≡ Ok q → IsKept bytes.now at goal p q }
+    ensures floats_deleted { (at : ℕ) (goal : List WSym) (p q : Proof) → IsProofOf bytes.now at goal p → floats_deleted bytes.now p ≡ Ok q → IsKept bytes.now at goal p q }
+{
+    let _ = bytes;
+}
+
+/// After UNIFY ALL no pending step has a whole listing of exactly one unifier.
+pub fn unify_all_leaves_no_only_unifier(bytes: &[u8])
+    ensures { (at : ℕ) (set : Settings) (goal : List WSym) (p q : Proof) → IsProofOf bytes.now at goal p → all_unified bytes.now set p ≡ Ok q → first_unifier bytes.now set (steps_of q.plain) ≡ None }
+{
+    let _ = bytes;
+}
