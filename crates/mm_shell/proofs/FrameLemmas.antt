@@ -25,7 +25,7 @@ use Rattle.mm_shell.specs.declared.answer.Done.{Done}
 use Rattle.mm_shell.specs.declared.report.Report.{Report}
 use Rattle.mm_shell.specs.declared.report.Report.TheVariants.{Nothing}
 use Rattle.mm_shell.specs.Texts.{report_text}
-use Rattle.mm_shell.specs.declared.answer.Change.TheVariants.{Stays, Loads, Opens, Saves, Writes, Leaves, Ends}
+use Rattle.mm_shell.specs.declared.answer.Change.TheVariants.{Stays, Loads, Opens, Saves, Writes, Leaves, OpensLog, ClosesLog, Ends}
 
 -- ## A sound state stays sound
 
@@ -77,6 +77,8 @@ change_sound origin s (Opens p) h fit = opens s.database s.open_proof p h fit
 change_sound origin s (Saves x) h fit = saves s.database s.open_proof x h fit
 change_sound origin s Writes h fit = h
 change_sound origin s Leaves h fit = without_proof s.database s.open_proof h
+change_sound origin s OpensLog h fit = h
+change_sound origin s ClosesLog h fit = h
 change_sound origin s Ends h fit = h
 
 pub fitting_stays_sound : FittingStaysSound
@@ -111,6 +113,8 @@ change_by origin s done bytes fit is = at done.change fit.0 where
   at (Saves x) fit = saves_change s.database x bytes fit is
   at Writes fit = is
   at Leaves fit = is
+  at OpensLog fit = is
+  at ClosesLog fit = is
   at Ends fit = is
 
 pub only_saves_change : OnlySavesChange
@@ -124,6 +128,8 @@ comes_by origin s bytes none Stays fit e = absurd (never s.database bytes none e
 comes_by origin s bytes none (Opens p) fit e = absurd (never s.database bytes none e)
 comes_by origin s bytes none Writes fit e = absurd (never s.database bytes none e)
 comes_by origin s bytes none Leaves fit e = absurd (never s.database bytes none e)
+comes_by origin s bytes none OpensLog fit e = absurd (never s.database bytes none e)
+comes_by origin s bytes none ClosesLog fit e = absurd (never s.database bytes none e)
 comes_by origin s bytes none Ends fit e = absurd (never s.database bytes none e)
 
 pub loads_the_origin : LoadsTheOrigin
@@ -166,6 +172,8 @@ hold_after origin s done theorem before h (Opens p) fit known e = known e
 hold_after origin s done theorem before h (Saves x) fit known e = saves_hold s.database s.open_proof x theorem before h fit known e
 hold_after origin s done theorem before h Writes fit known e = known e
 hold_after origin s done theorem before h Leaves fit known e = known e
+hold_after origin s done theorem before h OpensLog fit known e = known e
+hold_after origin s done theorem before h ClosesLog fit known e = known e
 hold_after origin s done theorem before h Ends fit known e = known e
 
 pub saved_theorems_hold : SavedTheoremsHold
@@ -183,6 +191,8 @@ ends_quietly origin s (Opens p) report silent on off = absurd (true≢false (sym
 ends_quietly origin s (Saves x) report silent on off = absurd (true≢false (sym off ∙ on))
 ends_quietly origin s Writes report silent on off = absurd (true≢false (sym off ∙ on))
 ends_quietly origin s Leaves report silent on off = absurd (true≢false (sym off ∙ on))
+ends_quietly origin s OpensLog report silent on off = absurd (true≢false (sym off ∙ on))
+ends_quietly origin s ClosesLog report silent on off = absurd (true≢false (sym off ∙ on))
 
 pub ends_silently : EndsSilently
 unfolding Fits
@@ -212,6 +222,8 @@ made_by origin s done (Loads b) fit = nothing_made s.database
 made_by origin s done (Opens p) fit = nothing_made s.database
 made_by origin s done Writes fit = nothing_made s.database
 made_by origin s done Leaves fit = nothing_made s.database
+made_by origin s done OpensLog fit = nothing_made s.database
+made_by origin s done ClosesLog fit = nothing_made s.database
 made_by origin s done Ends fit = nothing_made s.database
 
 pub saves_can_be_made : SavesCanBeMade

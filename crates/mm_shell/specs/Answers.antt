@@ -1,9 +1,9 @@
 -- What a command answers, and the words with which its definition is written.
 use Rattle.std.specs.Prelude.{◌≡◌, ◌||◌, ℕ, Bool, true, false, List, [], ◌∷◌, Option, Some, None, Result, Ok, Err, is_err, if◌then◌else◌}
 use Rattle.mm_shell.specs.declared.refusal.Refusal.{Refusal}
-use Rattle.mm_shell.specs.declared.refusal.Refusal.TheVariants.{WrongWord, LineTooLong, NoDatabase, AlreadyRead, ProofOpen, NoProofOpen, ProofNotSaved, NotWritten, FileFault, OutOfMemory, NotBuilt}
+use Rattle.mm_shell.specs.declared.refusal.Refusal.TheVariants.{WrongWord, LineTooLong, NoDatabase, AlreadyRead, ProofOpen, NoProofOpen, ProofNotSaved, NotWritten, NoLog, FileFault, OutOfMemory, LogKept, NotBuilt}
 use Rattle.mm_shell.specs.declared.report.Report.{Report}
-use Rattle.mm_shell.specs.declared.report.Report.TheVariants.{Nothing, Counts}
+use Rattle.mm_shell.specs.declared.report.Report.TheVariants.{Nothing, LogOpened, LogClosed, Counts}
 use Rattle.mm_shell.specs.declared.answer.Change.{Change}
 use Rattle.mm_shell.specs.declared.answer.Change.TheVariants.{Stays, Loads, Opens, Saves}
 use Rattle.mm_shell.specs.declared.answer.Done.{Done}
@@ -61,12 +61,16 @@ refusal_takes ProofOpen = false
 refusal_takes NoProofOpen = false
 refusal_takes ProofNotSaved = false
 refusal_takes NotWritten = false
+refusal_takes NoLog = false
 refusal_takes FileFault = false
+refusal_takes LogKept = false
 refusal_takes NotBuilt = false
 refusal_takes _ = true
 
 abbrev pub report_takes : Report → Bool
 report_takes Nothing = false
+report_takes LogOpened = false
+report_takes LogClosed = false
 report_takes (Counts steps unknown pending) = false
 report_takes _ = true
 

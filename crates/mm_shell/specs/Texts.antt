@@ -8,9 +8,9 @@ use Rattle.mm_shell.specs.Answers.{Answer}
 use Rattle.mm_shell.specs.Lines.{line_of, numbered}
 use Rattle.mm_shell.specs.Verdicts.{checks_text}
 use Rattle.mm_shell.specs.declared.refusal.Refusal.{Refusal}
-use Rattle.mm_shell.specs.declared.refusal.Refusal.TheVariants.{WrongWord, LineTooLong, NoDatabase, AlreadyRead, NoFile, BadDatabase, NoStatement, NotTheorem, Guarded, ProofOpen, NoProofOpen, TooManySteps, TooDeep, NoStep, NotEarlier, NotActive, NoMatch, TooLong, NotUnified, ProofNotSaved, NotWritten, FileFault, OutOfMemory, NotBuilt, NotBuiltHere, NeedsWork}
+use Rattle.mm_shell.specs.declared.refusal.Refusal.TheVariants.{WrongWord, LineTooLong, NoDatabase, AlreadyRead, NoFile, BadDatabase, NoStatement, NotTheorem, Guarded, ProofOpen, NoProofOpen, TooManySteps, TooDeep, NoStep, NotEarlier, NotActive, NoMatch, TooLong, NotUnified, ProofNotSaved, NotWritten, NoLog, FileFault, OutOfMemory, LogKept, NotBuilt, NotBuiltHere, NeedsWork}
 use Rattle.mm_shell.specs.declared.report.Report.{Report}
-use Rattle.mm_shell.specs.declared.report.Report.TheVariants.{Nothing, Loaded, Verified, Wrote, Counts, Saved}
+use Rattle.mm_shell.specs.declared.report.Report.TheVariants.{Nothing, Loaded, Verified, Wrote, LogOpened, LogClosed, Counts, Saved}
 
 -- ## Refusals
 
@@ -47,8 +47,10 @@ refusal_text TooLong = numbered 23 (line_of (codes "limit: length"))
 refusal_text (NotUnified step) = numbered 32 (codes "step " ++ (decimal step ++ line_of (codes " is not unified")))
 refusal_text ProofNotSaved = numbered 36 (line_of (codes "the proof is not saved"))
 refusal_text NotWritten = numbered 37 (line_of (codes "the database is not written"))
+refusal_text NoLog = numbered 38 (line_of (codes "no log"))
 refusal_text FileFault = numbered 40 (line_of (codes "file fault"))
 refusal_text OutOfMemory = numbered 42 (line_of (codes "out of memory"))
+refusal_text LogKept = numbered 44 (line_of (codes "a log is already kept"))
 refusal_text NotBuilt = numbered 60 (line_of (codes "not built yet"))
 refusal_text NotBuiltHere = numbered 60 (line_of (codes "not built yet"))
 refusal_text (NeedsWork label) = numbered 62 (codes "label " ++ (label ++ line_of (codes " needs work variables")))
@@ -78,6 +80,8 @@ report_text Nothing = []
 report_text (Loaded labelled axioms theorems) = loaded_text labelled axioms theorems
 report_text (Verified bytes checks) = checks_text bytes checks
 report_text (Wrote name) = wrote_text name
+report_text LogOpened = line_of (codes "Log opened.")
+report_text LogClosed = line_of (codes "Log closed.")
 report_text (Counts steps unknown pending) = counts_text steps unknown pending
 report_text (Saved label some_unknown steps) = saved_text label some_unknown steps
 

@@ -26,6 +26,10 @@ pub enum Change {
     Writes,
     /// The open proof is left.
     Leaves,
+    /// A log is opened. Its name stands in the line.
+    OpensLog,
+    /// The log is closed.
+    ClosesLog,
     /// The session ends.
     Ends,
 }

@@ -24,6 +24,8 @@ pub fn apply_change(state: &mut State, change: Change)
         }
         Change::Writes => state.unwritten = false,
         Change::Leaves => set_proof(&mut state.open_proof, None),
+        Change::OpensLog => state.log_open = true,
+        Change::ClosesLog => state.log_open = false,
         Change::Ends => state.ended = true,
     }
 }

@@ -37,8 +37,10 @@ pub enum Refusal<'a> {
     NotUnified(u32),
     ProofNotSaved,
     NotWritten,
+    NoLog,
     FileFault,
     OutOfMemory,
+    LogKept,
     NotBuilt,
     /// Not built, which shows only after work that takes memory.
     NotBuiltHere,

@@ -62,8 +62,10 @@ pub fn refusal_text(alloc: Global, refusal: &Refusal<'_>) -> Result<Text, Memory
         )),
         Refusal::ProofNotSaved => Ok(Text::refusal(alloc, 36, b"the proof is not saved\n")),
         Refusal::NotWritten => Ok(Text::refusal(alloc, 37, b"the database is not written\n")),
+        Refusal::NoLog => Ok(Text::refusal(alloc, 38, b"no log\n")),
         Refusal::FileFault => Ok(Text::refusal(alloc, 40, b"file fault\n")),
         Refusal::OutOfMemory => Ok(Text::refusal(alloc, 42, b"out of memory\n")),
+        Refusal::LogKept => Ok(Text::refusal(alloc, 44, b"a log is already kept\n")),
         Refusal::NotBuilt => Ok(Text::refusal(alloc, 60, b"not built yet\n")),
         Refusal::NotBuiltHere => Ok(Text::refusal(alloc, 60, b"not built yet\n")),
         Refusal::NeedsWork(label) => Text::refusal_of(

@@ -11,6 +11,8 @@ pub enum Report<'a> {
     Verified(DatabaseRef<'a>, Checks),
     /// The database was written into the file of this name.
     Wrote(Word<'a>),
+    LogOpened,
+    LogClosed,
     /// How many steps the open proof has, and how many of them are unknown and pending.
     Counts(u32, u32, u32),
     /// The proof of the theorem with this label was saved: whether some step is unknown, and how many steps there are.

@@ -24,6 +24,8 @@ pub fn report_text(alloc: Global, report: &Report<'_>) -> Result<Text, Memory>
             checks_text(alloc, database.database(), checks.as_slice())
         }
         Report::Wrote(name) => wrote(alloc, name),
+        Report::LogOpened => Ok(Text::fixed(alloc, b"Log opened.\n")),
+        Report::LogClosed => Ok(Text::fixed(alloc, b"Log closed.\n")),
         Report::Counts(steps, unknown, pending) => Ok(Text::counts(
             alloc, *steps, *unknown, *pending,
         )),

@@ -13,12 +13,15 @@ pub struct State {
     pub open_proof: Option<OpenProof>,
     /// Whether the database was changed after WRITE SOURCE put it into a file last.
     pub unwritten: bool,
+    /// Whether a log is open.
+    pub log_open: bool,
     /// Whether EXIT has ended the session.
     pub ended: bool,
 }
 
 impl State {
-    /// The state in which a session begins: without a database and without an open proof.
+    /// The state in which a session begins: without a database, without an open proof and
+    /// without a log.
     pub fn new() -> State
         ensures { result ≡ new_state }
     {
@@ -26,6 +29,7 @@ impl State {
             database: None,
             open_proof: None,
             unwritten: false,
+            log_open: false,
             ended: false,
         }
     }
