@@ -3,3 +3,11 @@ pub mod Spelling
 pub mod Lettered
 pub mod Capped
 pub mod Listed
+pub mod Shaped
+pub mod Same
+pub mod Folds
+pub mod Naming
+pub mod Writings
+pub mod Placing
+pub mod Going
+pub mod Backed

@@ -6,3 +6,13 @@ pub mod Reading
 pub mod Decoding
 pub mod Readers
 pub mod LettersLeft
+pub mod Trees
+pub mod Folding
+pub mod Compacting
+pub mod Forests
+pub mod Arities
+pub mod Shapes
+pub mod Shaping
+pub mod Backs
+pub mod Parts
+pub mod TreeNames

@@ -4,16 +4,24 @@
 //! letters, which number the steps (Appendix B).
 #![tactic(auto)]
 
+mod arity;
+mod compacting;
 mod decoder;
+mod extent;
 mod fault;
 mod label;
 mod letter;
 mod letters;
 mod reader;
+mod sizing;
 mod step;
+mod table;
 mod token;
+mod written;
 
 pub use decoder::decode;
+pub use extent::{MOST_TOLD, Shape};
 pub use fault::ProofFault;
+pub use sizing::shape;
 pub use std::alloc::AllocError as Memory;
 pub use step::{ProofStep, ProofSteps, StepKind};
