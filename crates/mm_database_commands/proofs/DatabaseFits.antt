@@ -55,7 +55,7 @@ checks_fit s bytes ids here all false e = (tt, tt, record { here = here; each = 
 verify_fits : (s : State) (word : List ℕ) → Fits Nowhere s (verify s word)
 verify_fits s word =
     given_fits Nowhere s _ _ (λ bytes is. given_fits Nowhere s _ _ (λ ids found.
-    checks_fit s bytes ids (found_is s.database NoDatabase bytes is) (meant_theorems bytes word ids found) (list_any (is_compressed bytes) ids) refl))
+    checks_fit s bytes ids (found_is s.database NoDatabase bytes is) (meant_theorems bytes word ids (sym found)) (list_any (is_compressed bytes) ids) refl))
 
 -- ## WRITE SOURCE
 

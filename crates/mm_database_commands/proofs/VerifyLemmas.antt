@@ -1,6 +1,6 @@
 -- The theorems that a word means, and the checks of their proofs.
-use Rattle.std.proofs.Common.{◌≡◌, ◌<◌, ◌≤◌, ◌+◌, ◌&&◌, ◌||◌, ℕ, Bool, true, false, cond, List, [], ◌∷◌, ◌++◌, length, map, filter, take, get_or, All, ByRecursion, Result, Ok, Err, refl, sym, ◌∙◌, ap, subst, arith, true≢false, if◌then◌else◌}
-use Rattle.std.specs.List.{list_any, range_with_len}
+use Rattle.std.proofs.Common.{◌≡◌, ◌<◌, ◌≤◌, ◌+◌, ◌&&◌, ◌||◌, ℕ, Bool, true, false, cond, List, [], ◌∷◌, ◌++◌, length, map, filter, take, get_or, All, Result, Ok, Err, refl, sym, ◌∙◌, ap, subst, arith, true≢false, if◌then◌else◌}
+use Rattle.std.specs.List.{AllByRecursion, list_any, range_with_len}
 use Rattle.std.proofs.lemmas.Bool.{false_from_ne_true}
 use Rattle.std.proofs.lemmas.List.Elements.{All-from_get_or, All-from_recursion, All-map, recursion_from_All}
 use Rattle.std.proofs.lemmas.List.Folds.{list_any_at}
@@ -35,12 +35,13 @@ kind_of Theorem b e = refl
 kind_of _ b e = absurd (true≢false (sym e))
 
 module _ (bytes pattern : List ℕ) where
-  kept : (xs : List ℕ) → ByRecursion (λ k. k < length (labels_of bytes)) xs → ByRecursion (IsTheorem bytes) (filter (is_meant bytes pattern) xs)
+  kept : (xs : List ℕ) → AllByRecursion (λ k. k < length (labels_of bytes)) xs → AllByRecursion (IsTheorem bytes) (filter (is_meant bytes pattern) xs)
   kept [] h = tt
-  kept (x ∷ xs) h = at (is_meant bytes pattern x) refl where
-    at : (b : Bool) → is_meant bytes pattern x ≡ b → ByRecursion (IsTheorem bytes) (cond b (x ∷ filter (is_meant bytes pattern) xs) (filter (is_meant bytes pattern) xs))
-    at true is = (record { own = h.0; kind = kind_of (stated_at bytes x).kind (matches pattern (label_at bytes x)) is }, kept xs h.1)
-    at false is = kept xs h.1
+  kept (x ∷ xs) h = at (is_meant bytes pattern x) refl (kept xs h.1) where
+    at : (b : Bool) → is_meant bytes pattern x ≡ b → AllByRecursion (IsTheorem bytes) (filter (is_meant bytes pattern) xs)
+        → AllByRecursion (IsTheorem bytes) (cond b (x ∷ filter (is_meant bytes pattern) xs) (filter (is_meant bytes pattern) xs))
+    at true is more = (record { own = h.0; kind = kind_of (stated_at bytes x).kind (matches pattern (label_at bytes x)) is }, more)
+    at false is more = more
 
   small : All (λ k. k < length (labels_of bytes)) (range_with_len 0 (length (labels_of bytes)))
   small =
@@ -68,8 +69,8 @@ one_meant bytes word ids (Ok id) is e =
     subst (λ (xs : List ℕ). All (IsTheorem bytes) xs) (ok_same (id ∷ []) ids e) (alone bytes id (record { own = named.own; kind = named.theorem }))
 one_meant bytes word ids (Err r) is e = cc
 
-pub meant_theorems : (bytes word : List ℕ) (ids : List ℕ) → theorems_meant bytes word ≡ Ok ids → All (IsTheorem bytes) ids
-meant_theorems bytes word ids e = at (is_pattern word) e where
+pub meant_theorems : (bytes word : List ℕ) (ids : List ℕ) → Ok ids ≡ theorems_meant bytes word → All (IsTheorem bytes) ids
+meant_theorems bytes word ids is = let e : theorems_meant bytes word ≡ Ok ids = sym is in at (is_pattern word) e where
   at : (b : Bool) → (if b then Ok (theorems_matched bytes word) else given (theorem_named bytes word) (λ id. Ok (id ∷ []))) ≡ Ok ids → All (IsTheorem bytes) ids
   at true e = subst (λ (xs : List ℕ). All (IsTheorem bytes) xs) (ok_same (theorems_matched bytes word) ids e) (all_theorems bytes word)
   at false e = one_meant bytes word ids (theorem_named bytes word) refl e

@@ -1,4 +1,4 @@
-ghost use Rattle.std.specs.Prelude.{◌≡◌, ◌<◌, All, IfOk, length};
+ghost use Rattle.std.specs.Prelude.{◌≡◌, ◌<◌, ◌∷◌, ◌++◌, [], All, IfOk, OnOk, cond, length};
 ghost use Rattle.mm_scope.specs.Contents.{labels_of};
 ghost use Rattle.mm_shell.specs.Answers.{Answers, Gives, seen};
 ghost use Rattle.mm_database_commands.specs.Commands.{AreChecked, IsTheorem, is_meant, is_pattern, theorems_matched, theorems_meant, verify};
@@ -13,7 +13,7 @@ use mm_trace::matches;
 use std::alloc::{AllocError as Memory, Global};
 
 /// Verifies the proofs of the theorems that a word means.
-#[tactic(auto, unfolding(mm_shell::specs::Answers::unless, mm_shell::specs::Answers::given))]
+#[tactic(auto, using(crate::proofs::VerifyLemmas::meant_theorems), unfolding(mm_shell::specs::Answers::unless, mm_shell::specs::Answers::given))]
 pub fn verify<'a>(alloc: Global, state: &'a State, word: &'a [u8]) -> Result<Done<'a>, Refusal<'a>>
     ensures { Answers (verify state.now word.now) result }
 {
@@ -36,8 +36,7 @@ fn theorems_meant<'a>(
     database: &Database,
     word: &'a [u8],
 ) -> Result<Vec<u32>, Refusal<'a>>
-    ensures is { Gives (theorems_meant database.now word.now) (seen (λ v. v.items) result) }
-    ensures theorems { IfOk result (λ v. All (IsTheorem database.now) v.items) }
+    ensures { Gives (theorems_meant database.now word.now) (seen (λ v. v.items) result) }
 {
     if is_pattern(word) {
         return Ok(theorems_matched(alloc, database, word)?);
@@ -56,17 +55,26 @@ fn is_pattern(word: &[u8]) -> bool
 }
 
 // The theorems whose labels a pattern matches, in order.
+#[tactic(auto, using(crate::proofs::VerifyLemmas::one_more))]
 fn theorems_matched(alloc: Global, database: &Database, pattern: &[u8]) -> Result<Vec<u32>, Memory>
-    ensures is { IfOk result (λ v. v.items ≡ theorems_matched database.now pattern.now) }
-    ensures theorems { IfOk result (λ v. All (IsTheorem database.now) v.items) }
+    ensures { IfOk result (λ v. v.items ≡ theorems_matched database.now pattern.now) }
 {
     let mut theorems = Vec::new(alloc);
     for id in 0..database.count() {
-        if is_meant(database, StmtId(id), pattern) {
-            theorems.push(id)?;
-        }
+        let meant = is_meant(database, StmtId(id), pattern);
+        push_where(&mut theorems, meant, id)?;
     }
     Ok(theorems)
+}
+
+// Appends a number where that is wanted.
+fn push_where(numbers: &mut Vec<u32>, wanted: bool, number: u32) -> Result<(), Memory>
+    ensures { OnOk result (numbers.new.items ≡ numbers.old.items ++ cond wanted (number ∷ []) []) }
+{
+    if wanted {
+        numbers.push(number)?;
+    }
+    Ok(())
 }
 
 // Whether a statement is a theorem whose label a pattern matches.
