@@ -35,7 +35,7 @@ Then the lines of the input are commands, up to EXIT or its end.
 /// Each command that is built, and what it does.
 const COMMANDS: [&str; 7] = [
     "READ FILE                      reads a database",
-    "VERIFY PROOF LABEL             verifies the proof of a theorem",
+    "VERIFY PROOF PATTERN           verifies the proofs of theorems",
     "WRITE SOURCE FILE              writes the database",
     "PROVE LABEL [/OVERRIDE]        takes a proof in hand that is ? alone",
     "ASSIGN LAST LABEL [/OVERRIDE]  makes its last unknown step known, by a statement",
