@@ -1,6 +1,7 @@
 //! Calls that take memory and that no session reaches.
 
 use mm_scope::{Database, StmtId};
+use mm_subst::{ParseFault, WStr, WSym, parse};
 use mm_tables::Pair;
 use mm_tokens::{Span, Token, tokens};
 use std::alloc::Global;
@@ -39,6 +40,33 @@ fn active_pairs(alloc: Global, database: &Database, id: u32) -> Result<Vec<Pair>
     Ok(database.frame(StmtId(id)).active_pairs.to_vec(alloc)?)
 }
 
+/// The string that a text writes at a statement, where three work variables are drawn.
+fn parsed(
+    alloc: Global,
+    database: &Database,
+    id: u32,
+    text: &[u8],
+) -> Result<Result<WStr, ParseFault>, Fail> {
+    if id >= database.count() {
+        return Err("no such statement".into());
+    }
+    Ok(parse(alloc, database, StmtId(id), text, 4))
+}
+
+/// Whether the fault of a text at a statement is this one.
+fn is_refused(
+    alloc: Global,
+    database: &Database,
+    id: u32,
+    text: &[u8],
+    fault: ParseFault,
+) -> Result<bool, Fail> {
+    match parsed(alloc, database, id, text)? {
+        Ok(_) => Ok(false),
+        Err(found) => Ok(found == fault),
+    }
+}
+
 fn pair(first: u32, second: u32) -> Pair {
     Pair { first, second }
 }
@@ -67,5 +95,31 @@ fn tokens_and_comments_are_listed(rt: HostRuntime) -> Result<(), Fail> {
     assert_eq!(rt; list.count(), 3);
     assert_eq!(rt; list.token(2), Token { start: 3, end: 5 });
     assert_eq!(rt; list.comments(), [Span { start: 9, end: 23 }].as_slice());
+    Ok(())
+}
+
+#[test]
+fn strings_are_parsed(rt: HostRuntime) -> Result<(), Fail> {
+    let alloc = rt.alloc();
+    let database = read(alloc, NESTED)?;
+    match parsed(alloc, &database, 5, b"\t|-  $3 x\r\n$1 z")? {
+        Ok(string) => {
+            let wanted = [
+                WSym::Const(1),
+                WSym::Work(3),
+                WSym::Var(2),
+                WSym::Work(1),
+                WSym::Var(4),
+            ];
+            assert_eq!(rt; string.symbols(), wanted.as_slice());
+        }
+        Err(fault) => return Err(fault.into()),
+    }
+    // `u` is active at `ax`, in whose block it is declared, and no longer at `th`.
+    assert!(rt; parsed(alloc, &database, 3, b"|- u")?.is_ok());
+    assert!(rt; is_refused(alloc, &database, 5, b"|- u", ParseFault::BadSymbol(2))?);
+    assert!(rt; is_refused(alloc, &database, 5, b"|- $4", ParseFault::BadSymbol(2))?);
+    assert!(rt; is_refused(alloc, &database, 5, b"$01 |- u", ParseFault::BadSymbol(1))?);
+    assert!(rt; is_refused(alloc, &database, 5, b" \t\n", ParseFault::Empty)?);
     Ok(())
 }
