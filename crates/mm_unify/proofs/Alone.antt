@@ -22,7 +22,7 @@ use Rattle.mm_unify.proofs.Balanced.{Plain, plain_apply, step_plain}
 use Rattle.mm_unify.proofs.Lists.{AllByRecursion-append}
 use Rattle.mm_unify.proofs.Loop.{explore_none, explore_more}
 
-cut-same : (q s t : List WSym) → cut (q ++ s) (q ++ t) ≡ cut s t
+pub cut-same : (q s t : List WSym) → cut (q ++ s) (q ++ t) ≡ cut s t
 cut-same [] s t = refl
 cut-same (c ∷ q) s t = rw (is_same-itself c) (cut-same q s t)
 

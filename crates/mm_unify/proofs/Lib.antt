@@ -19,3 +19,8 @@ pub mod Theorems
 pub mod Mirror
 pub mod Alone
 pub mod OneValue
+pub mod Along
+pub mod Growing
+pub mod Advancing
+pub mod Visiting
+pub mod Searching

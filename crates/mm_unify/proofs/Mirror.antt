@@ -9,6 +9,8 @@ use Rattle.mm_subst.specs.Substitutions.{Pairs}
 use Rattle.mm_subst.proofs.Keys.{is_same-comm}
 use Rattle.mm_unify.specs.Forbidden.{Forbidden}
 use Rattle.mm_unify.specs.Variables.{numbers, with_number}
+use Rattle.std.proofs.Common.{◌^◌, Option, None, Some, add_comm, length}
+use Rattle.mm_unify.specs.Listings.{answer}
 use Rattle.mm_unify.specs.Search.{Node, Visit, Answer, dead_end, cut, falls_short, child, steps, visit, visit_cut, explore, is_too_long, unless_long, stop, after, root, roots, selves}
 use Rattle.mm_unify.proofs.Lists.{AllByRecursion-append}
 use Rattle.mm_unify.proofs.Cut.{cut_front}
@@ -128,3 +130,8 @@ roots-mirror rule n a b h =
     let s = sided_first (root a b) h in
     let e = numbers-swap a b (elim h [ inl p ↦ inl (plain_from_test a p) | inr p ↦ inr (plain_from_test b p) ]) in
     ap (λ ms. explore rule n (record { left = b; right = a; values = selves ms } ∷ [])) (sym e) ∙ explore-mirror rule (side_of (root a b)) n (roots a b) (s, tt)
+
+pub answer-mirror : (rule : Forbidden) (trials : Option ℕ) (a b : List WSym) → (has_work a ≡ false) ⊎ (has_work b ≡ false) → answer rule trials b a ≡ answer rule trials a b
+answer-mirror rule None a b h =
+    ap (λ (n : ℕ). explore rule (3 ^ n) (roots b a)) (add_comm (length b) (length a)) ∙ roots-mirror rule (3 ^ (length a + length b)) a b h
+answer-mirror rule (Some n) a b h = roots-mirror rule n a b h

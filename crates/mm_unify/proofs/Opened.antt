@@ -87,7 +87,7 @@ three bs s h =
     let b = and_parts (is_opened_first bs.round s) (is_opened_first bs.curly s) a.0 in
     (b.0, b.1, a.1)
 
-from_three : (bs : Brackets) (s : List WSym) → is_opened_first bs.round s ≡ true → is_opened_first bs.curly s ≡ true → is_opened_first bs.square s ≡ true → are_opened_first bs s ≡ true
+pub from_three : (bs : Brackets) (s : List WSym) → is_opened_first bs.round s ≡ true → is_opened_first bs.curly s ≡ true → is_opened_first bs.square s ≡ true → are_opened_first bs s ≡ true
 from_three bs s r c q =
     both_true (is_opened_first bs.round s && is_opened_first bs.curly s) (is_opened_first bs.square s) (both_true (is_opened_first bs.round s) (is_opened_first bs.curly s) r c) q
 

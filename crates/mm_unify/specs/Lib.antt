@@ -4,4 +4,6 @@ pub mod Forbidden
 pub mod Search
 pub mod Listings
 pub mod Trials
+pub mod Parts
+pub mod Frames
 pub mod Laws

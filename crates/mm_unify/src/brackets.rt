@@ -57,6 +57,16 @@ fn are_opened_first(pairs: &Brackets, symbols: &[WSym]) -> bool
         && is_opened_first(&pairs.square, symbols)
 }
 
+/// Whether a value closes too early.
+pub fn closes_early(pairs: &Option<Brackets>, symbols: &[WSym]) -> bool
+    ensures { result ≡ (forbidden_by pairs.now).so_far symbols.now }
+{
+    match pairs {
+        None => false,
+        Some(pairs) => !are_opened_first(pairs, symbols),
+    }
+}
+
 /// Whether some value closes too early.
 pub fn some_forbidden(pairs: &Option<Brackets>, values: &Values) -> bool
     ensures { result ≡ list_any (λ q. (forbidden_by pairs.now).so_far q.1) values.now }

@@ -32,7 +32,7 @@ impl Model for Waiting {
 }
 
 /// How many equal heads two strings have.
-fn equal_heads(l: &[WSym], r: &[WSym]) -> usize
+pub fn equal_heads(l: &[WSym], r: &[WSym]) -> usize
     ensures within_left { result ≤ length l.now }
     ensures within_right { result ≤ length r.now }
     ensures left { drop result l.now ≡ (cut l.now r.now).0 }
@@ -48,13 +48,13 @@ fn equal_heads(l: &[WSym], r: &[WSym]) -> usize
     k
 }
 
-fn occurrences(symbol: WSym, s: &[WSym]) -> usize
+pub fn occurrences(symbol: WSym, s: &[WSym]) -> usize
     ensures { result ≡ count symbol s.now }
 {
     s.iter().filter(|x| symbol.is_same(**x)).count()
 }
 
-fn plain_symbols(s: &[WSym]) -> usize
+pub fn plain_symbols(s: &[WSym]) -> usize
     ensures { result ≡ plain_count s.now }
 {
     s.iter().filter(|x| !x.is_work()).count()
