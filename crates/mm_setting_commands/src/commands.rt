@@ -1,0 +1,21 @@
+ghost use Rattle.std.specs.Prelude.{◌≡◌};
+ghost use Rattle.mm_command.specs.Meanings.{meaning_of};
+ghost use Rattle.mm_shell.specs.Answers.{Answers};
+ghost use Rattle.mm_setting_commands.specs.Commands.{setting_answer};
+
+use crate::close_log::close_log;
+use crate::open_log::open_log;
+use mm_command::Command;
+use mm_shell::{Done, Refusal, State};
+
+/// The answer to a command on settings and logs: one arm for each. It changes nothing, and takes no memory.
+#[tactic(auto, unfolding(crate::specs::Commands::setting_answer))]
+pub fn answer<'a>(state: &'a State, command: Command<'a>) -> Result<Done<'a>, Refusal<'a>>
+    ensures { Answers (setting_answer (meaning_of command.entry) state.now) result }
+{
+    match command {
+        Command::OpenLog { .. } => open_log(state),
+        Command::CloseLog => close_log(state),
+        _ => Err(Refusal::NotBuilt),
+    }
+}
