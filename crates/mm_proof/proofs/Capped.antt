@@ -11,7 +11,7 @@ use Rattle.mm_proof.specs.Faults.{after, Refuses}
 use Rattle.mm_proof.specs.Numbers.{letter_of}
 use Rattle.mm_proof.specs.Reading.{Placed, Reading, read_letter, unless_empty, ended, read_from, read}
 use Rattle.mm_proof.specs.Readers.{most, reading, IsSmall, TakesOne}
-use Rattle.mm_proof.proofs.Spelling.{passed}
+use Rattle.mm_proof.proofs.Decodes.{passed}
 
 pub capped : (n k d : ℕ) → min n most ≡ k → min (5 * n + d) most ≡ min (5 * k + d) most
 capped n k d e = omega arith

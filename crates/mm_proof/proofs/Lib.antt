@@ -1,5 +1,5 @@
 pub mod Linked
-pub mod Spelling
+pub mod Decodes
 pub mod Lettered
 pub mod Capped
 pub mod Listed
@@ -11,3 +11,12 @@ pub mod Writings
 pub mod Placing
 pub mod Going
 pub mod Backed
+pub mod Digits
+pub mod Numbering
+pub mod Using
+pub mod Returns
+pub mod Whole
+pub mod Orders
+pub mod Flattened
+pub mod Worded
+pub mod Wholes

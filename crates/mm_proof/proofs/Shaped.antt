@@ -121,7 +121,7 @@ makes_none bytes f trees children (kind.Back k) a e = by (slice_get f.trees (k -
     by (Some t) h = absurd (none-some (shape_of t) (sym h))
 makes_none bytes f trees children kind.Unknown a e = absurd (none-some (joined_shape children) (sym e))
 
-goes_on : (bytes : List ℕ) (f : Folded) (all : List ProofStep) (i : ℕ) (s : ProofStep) (o : Option Folded) → i < length all → s ≡ get_or all i s → fold_step (arity_of bytes) f (plain s.kind) ≡ o
+pub goes_on : (bytes : List ℕ) (f : Folded) (all : List ProofStep) (i : ℕ) (s : ProofStep) (o : Option Folded) → i < length all → s ≡ get_or all i s → fold_step (arity_of bytes) f (plain s.kind) ≡ o
     → folded (arity_of bytes) f (drop i (plain_steps all)) ≡ onward o (λ next. folded (arity_of bytes) next (drop (i + 1) (plain_steps all)))
 unfolding folded
 goes_on bytes f all i s o at is h =

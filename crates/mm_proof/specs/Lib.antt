@@ -16,3 +16,8 @@ pub mod Shaping
 pub mod Backs
 pub mod Parts
 pub mod TreeNames
+pub mod Spelling
+pub mod Numbered
+pub mod Flattening
+pub mod Encoding
+pub mod Encodes

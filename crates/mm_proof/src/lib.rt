@@ -7,19 +7,25 @@
 mod arity;
 mod compacting;
 mod decoder;
+mod encoder;
 mod extent;
 mod fault;
+mod flat;
 mod label;
 mod letter;
 mod letters;
+mod listing;
+mod number;
 mod reader;
 mod sizing;
+mod spelling;
 mod step;
 mod table;
 mod token;
 mod written;
 
 pub use decoder::decode;
+pub use encoder::{compressed_len, encode_compressed, encode_normal};
 pub use extent::{MOST_TOLD, Shape};
 pub use fault::ProofFault;
 pub use sizing::shape;

@@ -6,7 +6,7 @@ use Rattle.mm_proof.specs.Labels.{step_of, text_of}
 use Rattle.mm_proof.specs.Steps.{AreSound, untagged}
 use Rattle.mm_proof.specs.declared.step.ProofStep.{ProofStep}
 use Rattle.mm_proof.proofs.Linked.{sound_more}
-use Rattle.mm_proof.proofs.Spelling.{spelled_on, spelled_more, spelled_fails, spelled_all, passed}
+use Rattle.mm_proof.proofs.Decodes.{spelled_on, spelled_more, spelled_fails, spelled_all, passed}
 use Rattle.mm_proof.proofs.decoder.steps_in.Goals as goal
 
 pub returns-in_err-kind-clause-value : goal.returns-in_err-kind-clause-value

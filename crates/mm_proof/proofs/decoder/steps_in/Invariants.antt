@@ -2,7 +2,7 @@ use Rattle.std.proofs.Common.{◌≡◌, ◌+◌, length}
 use Rattle.mm_tokens.specs.Pieces.{pieces_of, tokens_in}
 use Rattle.mm_proof.specs.Decoding.{steps_from}
 use Rattle.mm_proof.specs.Steps.{AreSound}
-use Rattle.mm_proof.proofs.Spelling.{spelled_on}
+use Rattle.mm_proof.proofs.Decodes.{spelled_on}
 use Rattle.mm_proof.proofs.decoder.steps_in.Given as goal
 
 abbrev pub invariant-loop-token : goal.invariant-loop-token

@@ -6,7 +6,7 @@ use Rattle.mm_tokens.specs.Pieces.{tokens_in}
 use Rattle.mm_proof.specs.Labels.{hypothesis, text_of, listed_of, listed_from, numbered}
 use Rattle.mm_proof.specs.Readers.{IsLabel}
 use Rattle.mm_proof.specs.declared.step.StepKind.{StepKind}
-use Rattle.mm_proof.proofs.Spelling.{passed}
+use Rattle.mm_proof.proofs.Decodes.{passed}
 use Rattle.mm_proof.proofs.Listed.{listed_ends, listed_more, listed_fails, listed_none, hypotheses_own, few_gives}
 use Rattle.mm_proof.proofs.label.numbered.Goals as goal
 

@@ -1,0 +1,7 @@
+use Rattle.std.proofs.Common.{◌≡◌, [], ◌∷◌, map, take}
+use Rattle.mm_layout.specs.Laid.{laid}
+use Rattle.mm_proof.specs.Encoding.{word_of}
+use Rattle.mm_proof.proofs.encoder.lay_list.Given as goal
+
+abbrev pub invariant-loop-label : goal.invariant-loop-label
+invariant-loop-label l = l.layout ≡ laid ((40 ∷ []) ∷ map (word_of l.db) (take l.label-index l.list))
