@@ -14,3 +14,10 @@ pub mod Forms
 mod Places
 mod Labelling
 pub mod Labels
+pub mod Binding
+pub mod Works
+pub mod First
+pub mod Bounds
+pub mod Parts
+pub mod Moved
+pub mod Grafts

@@ -81,7 +81,7 @@ numbers-more p f n m kids i d e h g =
 
 -- the labels of the database
 
-each-append : (P : Plain → Type 0) (xs ys : List Plain) → Each P (xs ++ ys) → Each P xs × Each P ys
+pub each-append : (P : Plain → Type 0) (xs ys : List Plain) → Each P (xs ++ ys) → Each P xs × Each P ys
 each-append P [] ys h = (tt, h)
 each-append P (x ∷ xs) ys h = ((h.0, (each-append P xs ys h.1).0), (each-append P xs ys h.1).1)
 

@@ -5,3 +5,6 @@ pub mod Valid
 pub mod Numbers
 pub mod Forms
 pub mod Labels
+pub mod Binding
+pub mod Lengths
+pub mod Grafts

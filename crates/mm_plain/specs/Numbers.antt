@@ -11,6 +11,11 @@ abbrev pub numbers_from : {A : Type 0} → (A → Bool) → ℕ → List A → L
 numbers_from p n [] = []
 numbers_from p n (x ∷ xs) = if p x then (n ∷ numbers_from p (n + 1) xs) else numbers_from p (n + 1) xs
 
+-- the number of the first item that meets a test, where the first item has the number n
+abbrev pub first_from : {A : Type 0} → (A → Bool) → ℕ → List A → Option ℕ
+first_from p n [] = None
+first_from p n (x ∷ xs) = if p x then Some n else first_from p (n + 1) xs
+
 -- what each step names, in order; None where it is unknown
 abbrev pub labels_in : Plain → List (Option ℕ)
 labels_in x = map label_of (steps_of x)

@@ -7,6 +7,10 @@ mod laws;
 mod plain;
 mod statements;
 
-pub use laws::{sizes_add_up, valid_proofs_name_own_statements, valid_proofs_stay_valid};
+pub use laws::{
+    heights_add_up, sizes_add_up, substitutions_keep_the_shape, valid_proofs_have_valid_parts,
+    valid_proofs_name_own_statements, valid_proofs_stay_valid,
+    valid_proofs_stay_valid_under_substitutions, work_variables_alone_change,
+};
 pub use plain::Plain;
 pub use statements::{labels_find_statements, statements_are_formed, statements_are_strings};
