@@ -6,7 +6,10 @@ use Rattle.std.proofs.lemmas.List.Elements.{All-from_recursion, recursion_from_A
 use Rattle.mm_plain.specs.Shape.{Proof}
 use Rattle.mm_tree.specs.Versions.{Versions, IsAlive, IsKept, KeepsUpTo, HasNoDrafts, is_draft, named}
 use Rattle.mm_tree.specs.declared.tree.Mark.{Mark}
-use Rattle.mm_undo.specs.Histories.{Marks, IsLasting, Holds}
+use Rattle.mm_undo.specs.Histories.{Marks, Lists, IsLasting, Holds, IsUndone, IsRedone, lists_of}
+
+abbrev pub record-by : List Mark → List Mark → ℕ → Marks
+record-by past future depth = record { past = past; future = future; depth = depth }
 
 some-is : (y z : Mark) → Some y ≡ Some z → y ≡ z
 some-is y z e = ap (λ (o : Option Mark). or_else o y) e
@@ -106,3 +109,77 @@ lasting-one v m h = All-from_recursion (IsLasting v) (m ∷ []) (h, tt)
 
 pub lasting-head : (v : Versions) (m : Mark) → All (IsLasting v) (m ∷ []) → IsLasting v m
 lasting-head v m h = (recursion_from_All (IsLasting v) (m ∷ []) h).0
+
+pub take-none : {X : Type 0} (n : ℕ) (xs : List X) → xs ≡ [] → take n xs ≡ xs
+take-none zero [] e = refl
+take-none (suc n) [] e = refl
+take-none n (x ∷ xs) e = absurd (omega (arith, ap length e))
+
+pub drop-none : {X : Type 0} (n : ℕ) (xs : List X) → xs ≡ [] → drop n xs ≡ xs
+drop-none zero [] e = refl
+drop-none (suc n) [] e = refl
+drop-none n (x ∷ xs) e = absurd (omega (arith, ap length e))
+
+-- one step back
+pub record IsStep (v w : Versions) (h now : Marks) (p q : Proof) : Type 0 where
+  pub undone : IsUndone true (lists_of v h) (lists_of w now) p q
+  pub held : Holds w now
+
+pub stepped-back : (v w : Versions) (h now : Marks) (earlier later : Mark) (p q : Proof) → h.past ≡ now.past ++ earlier ∷ [] → now.future ≡ later ∷ h.future → now.depth ≡ h.depth → Holds v h
+    → (is_draft earlier ≡ false → KeepsLasting v w × HasNoDrafts w) → IsLasting v later → named v later ≡ p → q ≡ named v earlier → IsStep v w h now p q
+stepped-back v w h now earlier later p q past future depth holds keeps lasting is-p is-q =
+    let parts = lasting-front v now.past (earlier ∷ []) (subst (All (IsLasting v)) past holds.past) in
+    let kept = keeps (lasting-head v earlier parts.1).settled in
+    let coming : All (IsLasting v) now.future = subst (All (IsLasting v)) (sym future) (lasting-both v (later ∷ []) h.future (lasting-one v later lasting) holds.future) in
+    record {
+      undone = (
+        ap (map (named v)) past ∙ map-append (named v) now.past (earlier ∷ [])
+            ∙ ap (λ (l : List Proof). l ++ named v earlier ∷ []) (sym (names-kept v w now.past kept.0 parts.0))
+            ∙ ap (λ (r : Proof). map (named w) now.past ++ r ∷ []) (sym is-q),
+        names-kept v w now.future kept.0 coming ∙ ap (map (named v)) future ∙ ap (λ (r : Proof). r ∷ map (named v) h.future) is-p,
+        depth,
+      );
+      held = record {
+        no_drafts = kept.1;
+        past = lasting-kept v w now.past kept.0 parts.0;
+        future = lasting-kept v w now.future kept.0 coming;
+      };
+    }
+
+-- and one forward
+pub record IsStepOn (v w : Versions) (h now : Marks) (p q : Proof) : Type 0 where
+  pub redone : IsRedone true (lists_of v h) (lists_of w now) p q
+  pub held : Holds w now
+
+pub stepped-on : (v w : Versions) (h now : Marks) (earlier later : Mark) (p q : Proof) → h.future ≡ later ∷ now.future → now.past ≡ h.past ++ earlier ∷ [] → now.depth ≡ h.depth → Holds v h
+    → (is_draft later ≡ false → KeepsLasting v w × HasNoDrafts w) → IsLasting v earlier → named v earlier ≡ p → q ≡ named v later → IsStepOn v w h now p q
+stepped-on v w h now earlier later p q future past depth holds keeps lasting is-p is-q =
+    let parts = lasting-front v (later ∷ []) now.future (subst (All (IsLasting v)) future holds.future) in
+    let kept = keeps (lasting-head v later parts.0).settled in
+    let gone : All (IsLasting v) now.past = subst (All (IsLasting v)) (sym past) (lasting-both v h.past (earlier ∷ []) holds.past (lasting-one v earlier lasting)) in
+    record {
+      redone = (
+        ap (map (named v)) future
+            ∙ ap (λ (l : List Proof). named v later ∷ l) (sym (names-kept v w now.future kept.0 parts.1))
+            ∙ ap (λ (r : Proof). r ∷ map (named w) now.future) (sym is-q),
+        names-kept v w now.past kept.0 gone ∙ ap (map (named v)) past ∙ map-append (named v) h.past (earlier ∷ []) ∙ ap (λ (r : Proof). map (named v) h.past ++ r ∷ []) is-p,
+        depth,
+      );
+      held = record {
+        no_drafts = kept.1;
+        past = lasting-kept v w now.past kept.0 gone;
+        future = lasting-kept v w now.future kept.0 parts.1;
+      };
+    }
+
+pub marks-by : {past past' future future' : List Mark} {depth depth' : ℕ} → past ≡ past' → future ≡ future' → depth ≡ depth'
+    → record-by past future depth ≡ record-by past' future' depth'
+marks-by a b c = λ i. record-by (a i) (b i) (c i)
+
+length-drop : {X : Type 0} (k : ℕ) (xs : List X) → length (drop k xs) ≤ length xs - k
+length-drop zero xs = omega arith
+length-drop (suc k) [] = omega arith
+length-drop (suc k) (x ∷ xs) = omega (arith, length-drop k xs)
+
+pub keep-short : {X : Type 0} (n : ℕ) (xs : List X) → length (drop (length xs - n) xs) ≤ n
+keep-short n xs = omega (arith, length-drop (length xs - n) xs)

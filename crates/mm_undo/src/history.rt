@@ -94,9 +94,8 @@ impl History {
     {
         let mut past = HeapCircularBuffer::with_capacity(alloc, n as usize)?;
         let future = HeapCircularBuffer::with_capacity(alloc, n as usize)?;
-        let (front, back) = self.past.as_slices();
-        past.extend_from_slice(front);
-        past.extend_from_slice(back);
+        let kept = self.past.to_vec(alloc)?;
+        past.extend_from_slice(kept.as_slice());
         self.past = past;
         self.future = future;
         self.depth = n;
