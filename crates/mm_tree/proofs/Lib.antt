@@ -1,3 +1,9 @@
+pub mod Shapes
+pub mod Paths
+pub mod Kids
+pub mod Bindings
+pub mod Keeping
+pub mod Made
 pub mod Grown
 pub mod ByIds
 pub mod Behind

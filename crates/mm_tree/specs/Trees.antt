@@ -1,18 +1,41 @@
 -- What a tree is seen as.
-use Rattle.std.specs.Prelude.{ℕ, ◌≤◌}
-use Rattle.mm_plain.specs.declared.plain.Plain.{Plain}
-use Rattle.mm_plain.specs.Shape.{Proof, size_of, height_of}
+use Rattle.std.specs.Prelude.{◌≡◌, ℕ, ◌+◌, ◌≤◌, ◌<◌, length, vec_len, vec_capacity}
+use Rattle.mm_plain.specs.Shape.{Proof}
+use Rattle.mm_tree.specs.View.{values}
+use Rattle.mm_tree.specs.Versions.{Versions, hand_plain, hand_node, hand_length, IsSound}
+use Rattle.mm_tree.specs.declared.tree.Tree.TheInside.{Inside}
 
--- the proof in hand
+-- the proof in hand, and the versions that marks name
 pub record State : Type 0 where
   pub proof : Proof
+  pub versions : Versions
 
-abbrev pub state_of : Plain → ℕ → State
-state_of plain next = record { proof = record { plain = plain; next = next } }
+abbrev pub state_by : Versions → ℕ → State
+state_by v next = record { proof = record { plain = hand_plain v; next = next }; versions = v }
 
--- the bounds of a proof
-pub record IsBounded (plain : Plain) (next : ℕ) : Type 0 where
-  pub few : size_of plain ≤ 1000000
-  pub low : height_of plain ≤ 2000
-  pub first : 1 ≤ next
-  pub last : next ≤ 4000000001
+abbrev pub versions_of : Inside → Versions
+versions_of a = record {
+  roots = values a.roots.items;
+  trail = a.trail.items;
+  draft_roots = values a.draft_roots.items;
+  draft_bindings = a.draft_bindings.items;
+  begun_root = a.begun_root;
+  begun_length = a.begun_length;
+  turn = a.turn;
+}
+
+abbrev pub state_of : Inside → State
+state_of a = state_by (versions_of a) a.next
+
+-- the version in hand
+pub record IsWhole (v : Versions) (next : ℕ) : Type 0 where
+  pub begun_root : v.begun_root < length v.roots
+  pub begun_length : v.begun_length ≤ length v.trail
+  pub sound : IsSound (hand_node v) (hand_length v) next
+  pub turn : 1 ≤ v.turn
+
+-- there is room to settle the drafts
+pub record HasRoom (a : Inside) : Type 0 where
+  pub whole : IsWhole (versions_of a) a.next
+  pub roots : a.begun_root + 1 + vec_len a.draft_roots ≤ vec_capacity a.roots
+  pub trail : a.begun_length + vec_len a.draft_bindings ≤ vec_capacity a.trail

@@ -27,3 +27,8 @@ impl From<AllocError> for GraftFault {
         GraftFault::Memory
     }
 }
+
+/// A work variable with a number above 4,000,000,000 would be drawn.
+#[derive(Clone, Copy, Debug, PartialEq, Eq, Error)]
+#[error("no work variable is left")]
+pub struct WorkSpent;

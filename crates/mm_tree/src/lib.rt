@@ -1,15 +1,21 @@
-//! Proof trees: steps that are known or unknown, in boxed nodes that are counted as they are made.
+//! Proof trees: steps that are known or unknown, in nodes that versions share and that are counted as they are made.
+//!
+//! A tree has versions. An edit makes a new version, and the nodes that stay the same are shared. A mark names a version: it
+//! is a few numbers, and to take one, to go back to it and to go forward takes no memory. A string is kept as it was made;
+//! what the bindings of a version since then make of it is found when it is read.
 #![tactic(auto)]
 
 mod fault;
+mod line;
 mod node;
 mod premises;
 mod sources;
 #[cfg(test)]
 mod tests;
+mod timed;
 mod tree;
 
-pub use fault::GraftFault;
+pub use fault::{GraftFault, WorkSpent};
 pub use premises::premises as hypotheses;
 pub use std::alloc::AllocError as Memory;
-pub use tree::{MOST_LEVELS, MOST_STEPS, Tree};
+pub use tree::{MOST_LEVELS, MOST_STEPS, MOST_WORKS, Mark, Tree};

@@ -5,14 +5,17 @@ ghost use Rattle.mm_scope.specs.Contents.{labels_of};
 ghost use Rattle.mm_subst.specs.Statements.{statement_of};
 ghost use Rattle.mm_subst.specs.Substitutions.{applied};
 ghost use Rattle.mm_plain.specs.Premises.{premise_ids, premises_of};
-ghost use Rattle.mm_plain.specs.Shape.{unknown, known, unknowns};
-ghost use Rattle.mm_tree.specs.Placed.{levels_over};
+ghost use Rattle.mm_tree.specs.Meanings.{unknown_timed};
+ghost use Rattle.mm_tree.specs.Placed.{levels_over, unknowns_timed, placed_timed};
+ghost use Rattle.mm_tree.specs.View.{values};
 
 use crate::node::Node;
+use crate::timed::{Text, Values};
 use mm_base::{Made, Steps};
 use mm_scope::{Database, Kind, StmtId};
 use mm_subst::{Subst, TooLongOrMemory, WStr, apply, statement};
 use std::alloc::{AllocError, Global};
+use std::rc::Rc;
 use std::sync::ledger::Ledger;
 
 /// The ids of the mandatory hypotheses of an assertion, in order; a hypothesis has none.
@@ -50,44 +53,68 @@ fn goal(alloc: Global, db: &Database, sigma: &Subst, premise: StmtId) -> Result<
     }
 }
 
+/// An unknown step.
+pub fn unknown_node<L: Ledger>(
+    alloc: Global,
+    target: Rc<Text>,
+    steps: &mut Steps<L>,
+) -> Result<Rc<Node>, AllocError>
+    ensures node { IfOk result (λ r. r.value ≡ unknown_timed target.value) }
+    ensures cost { steps.new ≤ steps.old + 1 }
+{
+    let made = Made::new(steps);
+    Ok(Rc::new(alloc, Node::unknown(target, made))?)
+}
+
+/// A string with its birth.
+pub fn text(alloc: Global, birth: usize, string: WStr) -> Result<Rc<Text>, AllocError>
+    ensures { IfOk result (λ t. t.value ≡ record { birth = birth; string = string }) }
+{
+    Ok(Rc::new(alloc, Text { birth, string })?)
+}
+
 /// An unknown step for each premise.
 fn children<L: Ledger>(
     alloc: Global,
     db: &Database,
     premises: &[u32],
     sigma: &Subst,
+    birth: usize,
     steps: &mut Steps<L>,
-) -> Result<Vec<Node>, AllocError>
+) -> Result<Vec<Rc<Node>>, AllocError>
     requires own { All (λ m. m < length (labels_of db.now)) premises.now }
     requires short { All (λ m. length (applied sigma.now (statement_of db.now m)) ≤ 32768) premises.now }
-    ensures nodes { IfOk result (λ v. v.items ≡ unknowns sigma.now (map (statement_of db.now) premises.now)) }
+    ensures nodes { IfOk result (λ v. values v.items ≡ unknowns_timed birth sigma.now (map (statement_of db.now) premises.now)) }
     ensures cost { steps.new ≤ steps.old + length premises.now }
 {
     let mut nodes = Vec::new(alloc);
     for premise in premises {
         let goal = goal(alloc, db, sigma, StmtId(*premise))?;
-        nodes.push(Node::unknown(goal, Made::new(steps)))?;
+        let target = text(alloc, birth, goal)?;
+        nodes.push(unknown_node(alloc, target, steps)?)?;
     }
     Ok(nodes)
 }
 
-/// A known step over unknown ones.
+/// A known step over unknown ones, whose new strings have this birth.
 pub fn known_over<L: Ledger>(
     alloc: Global,
     db: &Database,
-    target: &WStr,
+    target: Rc<Text>,
     id: StmtId,
     sigma: &Subst,
+    birth: usize,
     steps: &mut Steps<L>,
-) -> Result<Node, AllocError>
+) -> Result<Rc<Node>, AllocError>
     requires own { id.0 < length (labels_of db.now) }
     requires short { All (λ h. length (applied sigma.now h) ≤ 32768) (premises_of db.now id.0) }
     requires few { length (premises_of db.now id.0) ≤ 1000000 }
-    ensures node { IfOk result (λ n. n ≡ known target.now id.0 sigma.now (unknowns sigma.now (premises_of db.now id.0))) }
+    ensures node { IfOk result (λ r. r.value ≡ placed_timed birth target.value id.0 sigma.now (premises_of db.now id.0)) }
     ensures cost { steps.new ≤ steps.old + 1 + length (premises_of db.now id.0) }
 {
-    let nodes = children(alloc, db, premises(db, id), sigma, steps)?;
-    let target = target.copy(alloc)?;
-    let sigma = sigma.copy(alloc)?;
-    Ok(Node::known(target, id.0, sigma, nodes, Made::new(steps)))
+    let nodes = children(alloc, db, premises(db, id), sigma, birth, steps)?;
+    let pairs = sigma.copy(alloc)?;
+    let sigma = Rc::new(alloc, Values { birth, pairs })?;
+    let made = Made::new(steps);
+    Ok(Rc::new(alloc, Node::known(target, id.0, sigma, nodes, made))?)
 }

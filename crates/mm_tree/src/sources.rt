@@ -1,26 +1,21 @@
 //! Strings beside sources: whether a string is a statement under a substitution. No source is built.
 
-ghost use Rattle.std.specs.Prelude.{◌≡◌, ◌<◌, ◌++◌, List, length, false, MatchOption};
+ghost use Rattle.std.specs.Prelude.{◌≡◌, ◌<◌, ◌++◌, List, length, false, IfOk, MatchOption};
 ghost use Rattle.std.specs.Cmp.Lexicographic.{pointwise};
 ghost use Rattle.mm_scope.specs.Contents.{labels_of};
 ghost use Rattle.mm_subst.specs.Statements.{statement_of};
-ghost use Rattle.mm_subst.specs.Substitutions.{applied, value_of};
+ghost use Rattle.mm_subst.specs.Substitutions.{applied};
 ghost use Rattle.mm_subst.specs.Symbols.{is_same};
 ghost use Rattle.mm_subst.specs.declared.symbol.WSym.{WSym};
+ghost use Rattle.mm_tree.specs.Lines.{values_now};
+ghost use Rattle.mm_tree.specs.Meanings.{text_now, sigma_now};
 
+use crate::line::{Line, string_now, value};
+use crate::node::has_values_with_work;
+use crate::timed::{Text, Values};
 use mm_scope::{Database, StmtId, Sym};
-use mm_subst::{Subst, WSym, own_symbol};
-use std::slice;
-
-/// What stands for a symbol.
-fn value<'a>(sigma: &'a Subst, symbol: &'a WSym) -> &'a [WSym]
-    ensures { result.now ≡ value_of sigma.now symbol.now }
-{
-    match sigma.get(*symbol) {
-        Some(value) => value.symbols(),
-        None => slice::from_ref(symbol),
-    }
-}
+use mm_subst::{Subst, WSym, has_work, own_symbol};
+use std::alloc::{AllocError, Global};
 
 /// What is left of a string behind another; `None` where it does not begin with it.
 fn behind<'a>(whole: &'a [WSym], front: &[WSym]) -> Option<&'a [WSym]>
@@ -55,4 +50,37 @@ pub fn is_source(db: &Database, id: StmtId, sigma: &Subst, target: &[WSym]) -> b
         left = rest;
     }
     left.is_empty()
+}
+
+/// A substitution as it is in a version.
+fn values_now(alloc: Global, line: &Line<'_>, sigma: &Values) -> Result<Subst, AllocError>
+    ensures { IfOk result (λ s. s ≡ sigma_now line.now sigma.now) }
+{
+    let mut now = Subst::new(alloc);
+    for (key, value) in sigma.pairs.pairs() {
+        let value = string_now(alloc, line, sigma.birth, value)?;
+        now.put(alloc, *key, value)?;
+    }
+    Ok(now)
+}
+
+/// Whether a string is a statement under a substitution, both as they are in a version. Nothing is built where they have no
+/// work variables.
+pub fn fits(
+    alloc: Global,
+    db: &Database,
+    line: &Line<'_>,
+    target: &Text,
+    id: StmtId,
+    sigma: &Values,
+) -> Result<bool, AllocError>
+    requires { id.0 < length (labels_of db.now) }
+    ensures { IfOk result (λ b. b ≡ pointwise is_same (text_now line.now target.now) (applied (sigma_now line.now sigma.now) (statement_of db.now id.0))) }
+{
+    if !has_work(&target.string) && !has_values_with_work(&sigma.pairs) {
+        return Ok(is_source(db, id, &sigma.pairs, target.string.symbols()));
+    }
+    let target = string_now(alloc, line, target.birth, &target.string)?;
+    let sigma = values_now(alloc, line, sigma)?;
+    Ok(is_source(db, id, &sigma, target.symbols()))
 }

@@ -1,26 +1,33 @@
-//! Proof trees.
+//! Proof trees and their versions.
 
-ghost use Rattle.std.specs.Prelude.{◌≡◌, ◌+◌, ◌<◌, ◌≤◌, ℕ, List, length, All, IfOk, OnOk, None};
+ghost use Rattle.std.specs.Prelude.{◌≡◌, ◌↔◌, ◌+◌, ◌<◌, ◌≤◌, ◌++◌, ℕ, [], false, true, List, length, vec_len, vec_capacity, All, IfOk, OnOk, OnErr, None};
 ghost use Rattle.std.specs.Option.{option_map};
 ghost use Rattle.mm_scope.specs.Contents.{labels_of};
 ghost use Rattle.mm_subst.specs.Statements.{statement_of};
 ghost use Rattle.mm_subst.specs.Substitutions.{Pairs, applied};
+ghost use Rattle.mm_subst.specs.Symbols.{has_work};
 ghost use Rattle.mm_subst.specs.declared.symbol.WSym.{WSym};
 ghost use Rattle.mm_plain.specs.Premises.{premises_of};
-ghost use Rattle.mm_plain.specs.Shape.{size_of, height_of, unknown, step_at, depth_at, target_of};
+ghost use Rattle.mm_plain.specs.Shape.{size_of, height_of, unknown, step_at, depth_at, target_of, put};
 ghost use Rattle.mm_plain.specs.Sources.{label_of};
 ghost use Rattle.mm_plain.specs.Numbers.{labels_in, unknowns_among, last_unknown_of, pending_in, HasOwnLabels};
+ghost use Rattle.mm_plain.specs.Grafts.{cleared_in, grafted_in};
 ghost use Rattle.mm_plain.specs.Valid.{Fits, IsString, IsValid, first_setting, placed_in, setting_of};
-ghost use Rattle.mm_tree.specs.Placed.{HasRoom, IsPlaced};
+ghost use Rattle.mm_tree.specs.Meanings.{mean, count, tall, youngest, text_now};
+ghost use Rattle.mm_tree.specs.Placed.{HasRoom, IsDrawn, IsPlaced};
+ghost use Rattle.mm_tree.specs.Versions.{HasNoDrafts, is_draft, IsAlive, KeepsMarks, KeepsOlder, KeepsUpTo, hand_length, hand_node, line_of, named};
 
-use crate::fault::GraftFault;
-use crate::node::Node;
-use crate::premises::{known_over, levels_over, premises};
-use mm_base::{Made, Steps};
+use crate::fault::{GraftFault, WorkSpent};
+use crate::line::Line;
+use crate::node::{Node, put};
+use crate::premises::{known_over, levels_over, premises, text, unknown_node};
+use crate::timed::Text;
+use mm_base::Steps;
 use mm_scope::{Database, StmtId};
 use mm_subst::{Subst, WStr, statement};
 use std::alloc::{AllocError, Global};
 use std::marker::{Brand, Model};
+use std::rc::Rc;
 use std::sync::ledger::{Blank, Ledger};
 
 /// The greatest number of steps of a tree.
@@ -29,26 +36,51 @@ pub const MOST_STEPS: u64 = 1_000_000;
 /// The greatest number of levels of a tree.
 pub const MOST_LEVELS: u64 = 2_000;
 
-/// A proof tree, and the number of the next work variable. Steps are numbered from 1 in postorder: the children of a
-/// step come before it, and the root is the last.
+/// The greatest number of a work variable.
+pub const MOST_WORKS: u32 = 4_000_000_000;
+
+/// The name of a version: the number of its root, how many bindings and which next work variable it has, and, where it is a
+/// draft, the turn of the drafts; 0 where it is settled.
+#[derive(Clone, Copy)]
+pub struct Mark {
+    root: usize,
+    length: usize,
+    next: u32,
+    turn: u64,
+}
+
+/// A proof tree, and the number of the next work variable, with the versions that marks name. Steps are numbered from 1 in
+/// postorder: the children of a step come before it, and the root is the last.
+///
+/// `fresh`, `place` and `clear` make drafts; `settle` makes these lasting.
 #[derive(Drop)]
 pub struct Tree {
-    root: Node,
+    // the roots and the bindings of settled versions, with room for those of the drafts
+    roots: Vec<Rc<Node>>,
+    trail: Vec<Subst>,
+    // those of the drafts
+    draft_roots: Vec<Rc<Node>>,
+    draft_bindings: Vec<Subst>,
+    // the settled version at which the drafts began
+    begun_root: usize,
+    begun_length: usize,
+    turn: u64,
     next: u32,
 }
 
 impl Model for Tree {
-    ghost use Rattle.mm_tree.specs.Trees.{State, state_of, IsBounded};
+    ghost use Rattle.mm_tree.specs.Trees.{State, state_of, HasRoom};
+    ghost use Rattle.mm_tree.specs.contracts.timed.TimedTree as t;
     ghost use Rattle.mm_plain.specs.contracts.plain.Plain as e;
     ghost use Rattle.std.specs.Coded.{codes};
 
     ghost Value = { State };
 
-    ghost coded = { Prim.hlevel (codes, e.the_row.coded) };
+    ghost coded = { Prim.hlevel (codes, e.the_row.coded, t.the_row.coded) };
 
-    ghost view = { λ t. state_of t.root t.next };
+    ghost view = { state_of };
 
-    ghost invariant = { λ t. IsBounded t.root t.next };
+    ghost invariant = { HasRoom };
 }
 
 impl Tree {
@@ -56,25 +88,47 @@ impl Tree {
     pub fn start(alloc: Global, db: &Database, at: StmtId) -> Result<Tree, AllocError>
         requires { at.0 < length (labels_of db.now) }
         ensures start { IfOk result (λ t. t.proof ≡ record { plain = unknown (statement_of db.now at.0); next = 1 }) }
+        ensures settled { IfOk result (λ t. HasNoDrafts t.versions) }
         // It is valid where the statement is a string of the database's own symbols.
         ensures valid { IfOk result (λ t. IsString (first_setting db.now at.0) (statement_of db.now at.0) → IsValid db.now at.0 (statement_of db.now at.0) t.proof) }
     {
         let target = statement(alloc, db, at)?;
-        Ok(start_in::<Brand>(target, Blank::new(1)))
+        start_in::<Brand>(alloc, target, Blank::new(1))
+    }
+
+    /// The tree of one unknown step for a goal.
+    pub fn start_goal<L: Ledger>(
+        alloc: Global,
+        db: &Database,
+        at: StmtId,
+        goal: &WStr,
+        steps: &mut Steps<L>,
+    ) -> Result<Tree, AllocError>
+        requires plain { has_work goal.now ≡ false }
+        requires short { length goal.now ≤ 32768 }
+        ensures start { IfOk result (λ t. t.proof ≡ record { plain = unknown goal.now; next = 1 }) }
+        ensures settled { IfOk result (λ t. HasNoDrafts t.versions) }
+        // It is valid where the goal is a string of the database's own symbols.
+        ensures valid { IfOk result (λ t. IsString (first_setting db.now at.0) goal.now → IsValid db.now at.0 goal.now t.proof) }
+        ensures cost { steps.new ≤ steps.old + 1 }
+    {
+        let _ = db;
+        let _ = at;
+        begin(alloc, goal.copy(alloc)?, steps)
     }
 
     /// How many steps there are.
     pub fn size(&self) -> u32
         ensures { result ≡ size_of self.now.proof.plain }
     {
-        self.root.size() as u32
+        self.hand().size() as u32
     }
 
     /// How many levels there are: a tree of one step has one.
     pub fn height(&self) -> u32
         ensures { result ≡ height_of self.now.proof.plain }
     {
-        self.root.height() as u32
+        self.hand().height() as u32
     }
 
     /// The number of the next work variable.
@@ -89,7 +143,7 @@ impl Tree {
         requires { (1 ≤ step) × (step ≤ size_of self.now.proof.plain) }
         ensures { result ≡ depth_at self.now.proof.plain step }
     {
-        self.root.depth(u64::from(step)) as u32
+        self.hand().depth(u64::from(step)) as u32
     }
 
     /// The statement that a step names; `None` exactly where the step is unknown.
@@ -97,7 +151,10 @@ impl Tree {
         requires { (1 ≤ step) × (step ≤ size_of self.now.proof.plain) }
         ensures { option_map (λ id. id.0) result ≡ label_of (step_at self.now.proof.plain step) }
     {
-        self.root.at(u64::from(step)).label().map(StmtId)
+        match self.hand().at(u64::from(step)).label() {
+            Some(id) => Some(StmtId(id)),
+            None => None,
+        }
     }
 
     /// The string that a step proves.
@@ -105,7 +162,7 @@ impl Tree {
         requires { (1 ≤ step) × (step ≤ size_of self.now.proof.plain) }
         ensures { IfOk result (λ t. t ≡ target_of (step_at self.now.proof.plain step)) }
     {
-        self.root.at(u64::from(step)).target().copy(alloc)
+        self.hand().at(u64::from(step)).target(alloc, &self.line())
     }
 
     /// What each step names, in order; `None` where the step is unknown.
@@ -113,7 +170,7 @@ impl Tree {
         ensures { IfOk result (λ v. v.items ≡ labels_in self.now.proof.plain) }
     {
         let mut labels = Vec::new(alloc);
-        self.root.labels(&mut labels)?;
+        self.hand().labels(&mut labels)?;
         Ok(labels)
     }
 
@@ -121,14 +178,14 @@ impl Tree {
     pub fn unknown_steps(&self) -> u32
         ensures { result ≡ unknowns_among (labels_in self.now.proof.plain) }
     {
-        self.root.unknowns() as u32
+        self.hand().unknowns() as u32
     }
 
     /// The number of the last unknown step; `None` where no step is unknown.
     pub fn last_unknown(&self) -> Option<u32>
         ensures { result ≡ last_unknown_of (labels_in self.now.proof.plain) }
     {
-        self.root.last_unknown(1)
+        self.hand().last_unknown(1)
     }
 
     /// The numbers of the pending steps, in order: those that are known, and whose string is not what their statement
@@ -138,8 +195,21 @@ impl Tree {
         ensures { IfOk result (λ v. v.items ≡ pending_in db.now self.now.proof.plain) }
     {
         let mut pending = Vec::new(alloc);
-        self.root.pending(db, 1, &mut pending)?;
+        self.hand()
+            .pending(alloc, db, &self.line(), 1, &mut pending)?;
         Ok(pending)
+    }
+
+    /// Draws work variables: raises the counter, and answers the first number.
+    pub fn fresh(&mut self, n: u32) -> Result<u32, WorkSpent>
+        ensures { IsDrawn result self.old self.new n }
+    {
+        if n > MOST_WORKS + 1 - self.next {
+            return Err(WorkSpent);
+        }
+        let first = self.next;
+        self.next += n;
+        Ok(first)
     }
 
     /// Whether an unknown step may be made known over an unknown step for each mandatory hypothesis of a statement: whether
@@ -153,17 +223,17 @@ impl Tree {
     {
         let step = u64::from(step);
         let premises = premises(db, id);
-        if premises.len() as u64 > MOST_STEPS - self.root.size() {
+        if premises.len() as u64 > MOST_STEPS - self.hand().size() {
             return Err(GraftFault::TooManySteps);
         }
-        if self.root.depth(step) + levels_over(premises) > MOST_LEVELS {
+        if self.hand().depth(step) + levels_over(premises) > MOST_LEVELS {
             return Err(GraftFault::TooDeep);
         }
         Ok(())
     }
 
     /// Makes an unknown step known, over an unknown step for each mandatory hypothesis of the statement that it names.
-    /// Where that is refused the tree is as before.
+    /// Where that is refused the tree is as before. Each mark that is alive stays alive.
     pub fn place<L: Ledger>(
         &mut self,
         alloc: Global,
@@ -178,26 +248,255 @@ impl Tree {
         requires own { id.0 < length (labels_of db.now) }
         requires short { All (λ h. length (applied sigma.now h) ≤ 32768) (premises_of db.now id.0) }
         ensures placed { IsPlaced result self.old self.new (placed_in db.now self.old.proof step id.0 sigma.now) }
+        ensures marks { KeepsMarks self.old.versions self.new.versions }
         ensures cost { steps.new ≤ steps.old + (depth_at self.old.proof.plain step + 1 + length (premises_of db.now id.0)) }
         // A proof that is valid for a theorem stays valid, where the statement and the values fit.
         ensures valid { OnOk result ((at : ℕ) (goal : List WSym) → IsValid db.now at goal self.old.proof → Fits (setting_of db.now at self.old.proof) id.0 sigma.now → IsValid db.now at goal self.new.proof) }
     {
         self.room(db, step, id)?;
-        let step = u64::from(step);
-        let node = known_over(alloc, db, self.root.at(step).target(), id, sigma, steps)?;
-        self.root.put(step, node);
+        let target = self.text(step)?;
+        let born = self.length();
+        let node = known_over(alloc, db, target, id, sigma, born, steps)?;
+        self.replace_step(alloc, step, node, steps)?;
+        Ok(())
+    }
+
+    /// Makes a step unknown. Where that is refused the tree is as before. Each mark that is alive stays alive.
+    pub fn clear<L: Ledger>(
+        &mut self,
+        alloc: Global,
+        step: u32,
+        steps: &mut Steps<L>,
+    ) -> Result<(), AllocError>
+        requires { (1 ≤ step) × (step ≤ size_of self.old.proof.plain) }
+        ensures ok { OnOk result (self.new.proof ≡ cleared_in self.old.proof step) }
+        ensures err { OnErr result (self.new ≡ self.old) }
+        ensures marks { KeepsMarks self.old.versions self.new.versions }
+        ensures cost { steps.new ≤ steps.old + (depth_at self.old.proof.plain step + 1) }
+        // A proof that is valid for a theorem stays valid.
+        ensures valid { OnOk result ((bytes : List ℕ) (at : ℕ) (goal : List WSym) → IsValid bytes at goal self.old.proof → IsValid bytes at goal self.new.proof) }
+    {
+        let _ = &self.roots;
+        let target = self.text(step)?;
+        let node = unknown_node(alloc, target, steps)?;
+        self.replace_step(alloc, step, node, steps)
+    }
+
+    /// The mark of the version in hand.
+    pub fn mark(&self) -> Mark
+        ensures alive { IsAlive self.now.versions result }
+        ensures named { named self.now.versions result ≡ self.now.proof }
+        ensures settled { HasNoDrafts self.now.versions → is_draft result ≡ false }
+    {
+        Mark {
+            root: self.begun_root + self.draft_roots.len(),
+            length: self.length(),
+            next: self.next,
+            turn: self.mark_turn(),
+        }
+    }
+
+    /// Goes back to a version, and drops the drafts that were made after it.
+    pub fn back(&mut self, m: Mark)
+        requires { IsAlive self.old.versions m }
+        ensures proof { self.new.proof ≡ named self.old.versions m }
+        ensures settled { is_draft m ≡ false → HasNoDrafts self.new.versions }
+        ensures marks { KeepsUpTo m self.old.versions self.new.versions }
+    {
+        if m.turn == 0 {
+            self.back_to_settled(m);
+        } else {
+            self.back_to_draft(m);
+        }
+    }
+
+    /// Goes forward to a version, and drops the drafts that were made after it.
+    pub fn forward(&mut self, m: Mark)
+        requires { IsAlive self.old.versions m }
+        ensures proof { self.new.proof ≡ named self.old.versions m }
+        ensures settled { is_draft m ≡ false → HasNoDrafts self.new.versions }
+        ensures marks { KeepsUpTo m self.old.versions self.new.versions }
+    {
+        self.back(m);
+    }
+
+    /// Makes the drafts lasting. The settled versions that are later than the one at which the drafts began are dropped, where
+    /// there are drafts.
+    pub fn settle(&mut self)
+        ensures same { self.new.proof ≡ self.old.proof }
+        ensures settled { HasNoDrafts self.new.versions }
+        ensures marks { KeepsOlder self.old.versions self.new.versions }
+    {
+        if self.draft_roots.is_empty() && self.draft_bindings.is_empty() {
+            return;
+        }
+        let root = self.begun_root + self.draft_roots.len();
+        let length = self.length();
+        self.roots.truncate(self.begun_root + 1);
+        move_all(&mut self.roots, &mut self.draft_roots);
+        self.trail.truncate(self.begun_length);
+        move_all(&mut self.trail, &mut self.draft_bindings);
+        self.begun_root = root;
+        self.begun_length = length;
+        self.turn = turn_after(self.turn);
+    }
+
+    /// Goes back to a settled version.
+    fn back_to_settled(&mut self, m: Mark)
+        requires alive { IsAlive self.old.versions m }
+        requires kind { is_draft m ≡ false }
+        ensures proof { self.new.proof ≡ named self.old.versions m }
+        ensures settled { HasNoDrafts self.new.versions }
+        ensures marks { KeepsUpTo m self.old.versions self.new.versions }
+    {
+        self.draft_roots.clear();
+        self.draft_bindings.clear();
+        self.begun_root = m.root;
+        self.begun_length = m.length;
+        self.turn = turn_after(self.turn);
+        self.next = m.next;
+    }
+
+    /// Goes back to a draft.
+    fn back_to_draft(&mut self, m: Mark)
+        requires alive { IsAlive self.old.versions m }
+        requires kind { is_draft m ≡ true }
+        ensures proof { self.new.proof ≡ named self.old.versions m }
+        ensures marks { KeepsUpTo m self.old.versions self.new.versions }
+    {
+        self.draft_roots.truncate(m.root - self.begun_root);
+        self.draft_bindings.truncate(m.length - self.begun_length);
+        self.next = m.next;
+    }
+
+    /// The root of the version in hand.
+    fn hand(&self) -> &Node
+        ensures node { result.now ≡ hand_node self.now.versions }
+        ensures plain { mean result.now (line_of self.now.versions true) ≡ self.now.proof.plain }
+        ensures few { count result.now ≤ 1000000 }
+        ensures low { tall result.now ≤ 2000 }
+        ensures born { youngest result.now ≤ hand_length self.now.versions }
+    {
+        match self.draft_roots.last() {
+            Some(root) => root,
+            None => &self.roots[self.begun_root],
+        }
+    }
+
+    /// The bindings of the version in hand.
+    fn line(&self) -> Line<'_>
+        ensures { result ≡ line_of self.now.versions true }
+    {
+        Line {
+            settled: &self.trail[..self.begun_length],
+            drafts: self.draft_bindings.as_slice(),
+        }
+    }
+
+    /// How many bindings the version in hand has.
+    fn length(&self) -> usize
+        ensures hand { result ≡ hand_length self.now.versions }
+        ensures line { length (line_of self.now.versions true) ≡ result }
+    {
+        self.begun_length + self.draft_bindings.len()
+    }
+
+    /// The turn of a mark of the version in hand.
+    fn mark_turn(&self) -> u64
+        ensures settled { (result ≡ 0) ↔ HasNoDrafts self.now.versions }
+        ensures drafts { 1 ≤ result → result ≡ self.now.versions.turn }
+    {
+        if self.draft_roots.is_empty() && self.draft_bindings.is_empty() {
+            0
+        } else {
+            self.turn
+        }
+    }
+
+    /// The string of a step, as it is kept.
+    fn text(&self, step: u32) -> Result<Rc<Text>, AllocError>
+        requires { (1 ≤ step) × (step ≤ size_of self.now.proof.plain) }
+        ensures now { IfOk result (λ t. text_now (line_of self.now.versions true) t.value ≡ target_of (step_at self.now.proof.plain step)) }
+        ensures born { IfOk result (λ t. t.value.birth ≤ hand_length self.now.versions) }
+    {
+        self.hand().at(u64::from(step)).share_text()
+    }
+
+    /// Puts a node in place of a step, as a draft.
+    fn replace_step<L: Ledger>(
+        &mut self,
+        alloc: Global,
+        step: u32,
+        new: Rc<Node>,
+        steps: &mut Steps<L>,
+    ) -> Result<(), AllocError>
+        requires exists { (1 ≤ step) × (step ≤ size_of self.old.proof.plain) }
+        requires born { youngest new.value ≤ hand_length self.old.versions }
+        requires few { size_of (put self.old.proof.plain step (mean new.value (line_of self.old.versions true))) ≤ 1000000 }
+        requires low { height_of (put self.old.proof.plain step (mean new.value (line_of self.old.versions true))) ≤ 2000 }
+        ensures ok { OnOk result (self.new.proof ≡ grafted_in self.old.proof step (mean new.value (line_of self.old.versions true))) }
+        ensures err { OnErr result (self.new ≡ self.old) }
+        ensures marks { KeepsMarks self.old.versions self.new.versions }
+        ensures cost { steps.new ≤ steps.old + depth_at self.old.proof.plain step }
+    {
+        let drafts = self.draft_roots.len();
+        self.roots.reserve(drafts + 1)?;
+        let root = put(alloc, self.hand(), u64::from(step), new, steps)?;
+        self.draft_roots.push(root)?;
         Ok(())
     }
 }
 
+/// The turn of the drafts after those of a turn.
+fn turn_after(turn: u64) -> u64
+    ensures { 1 ≤ result }
+{
+    if turn == u64::MAX { 1 } else { turn + 1 }
+}
+
+/// Moves all elements to the end of another list that has room for them.
+fn move_all<T>(to: &mut Vec<T>, from: &mut Vec<T>)
+    requires { vec_len to.old + vec_len from.old ≤ vec_capacity to.old }
+    ensures moved { to.new.items ≡ to.old.items ++ from.old.items }
+    ensures empty { from.new.items ≡ [] }
+    ensures room { vec_capacity to.old ≤ vec_capacity to.new }
+{
+    match to.append(from) {
+        Ok(()) => {}
+        Err(_) => unreachable!(),
+    }
+}
+
+/// The tree of one unknown step.
+fn begin<L: Ledger>(alloc: Global, target: WStr, steps: &mut Steps<L>) -> Result<Tree, AllocError>
+    ensures start { IfOk result (λ t. t.proof ≡ record { plain = unknown target; next = 1 }) }
+    ensures settled { IfOk result (λ t. HasNoDrafts t.versions) }
+    ensures cost { steps.new ≤ steps.old + 1 }
+{
+    let target = text(alloc, 0, target)?;
+    let root = unknown_node(alloc, target, steps)?;
+    let mut roots = Vec::new(alloc);
+    roots.push(root)?;
+    Ok(Tree {
+        roots,
+        trail: Vec::new(alloc),
+        draft_roots: Vec::new(alloc),
+        draft_bindings: Vec::new(alloc),
+        begun_root: 0,
+        begun_length: 0,
+        turn: 1,
+        next: 1,
+    })
+}
+
 /// The tree of one unknown step, counted in a ledger of its own.
-fn start_in<L: Ledger>(target: WStr, blank: Blank) -> Tree
+fn start_in<L: Ledger>(alloc: Global, target: WStr, blank: Blank) -> Result<Tree, AllocError>
     requires name { blank.name ≡ L.name }
     requires parts { blank.parts ≡ L.parts }
     requires some { 0 < L.parts }
-    ensures { result.proof ≡ record { plain = unknown target; next = 1 } }
+    ensures start { IfOk result (λ t. t.proof ≡ record { plain = unknown target; next = 1 }) }
+    ensures settled { IfOk result (λ t. HasNoDrafts t.versions) }
 {
     let mut steps: Steps<L> = Steps::new(blank);
-    let root = Node::unknown(target, Made::new(&mut steps));
-    Tree { root, next: 1 }
+    begin(alloc, target, &mut steps)
 }

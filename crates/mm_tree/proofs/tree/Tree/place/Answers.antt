@@ -1,18 +1,27 @@
-use Rattle.std.proofs.Common.{◌≡◌, ℕ, List, ap, sym, subst, ◌∙◌, arith}
+use Rattle.std.proofs.Common.{◌≡◌, ℕ, ◌+◌, ◌-◌, ◌≤◌, List, [], ◌∷◌, ◌++◌, true, take, length, Result, Ok, Err, OnOk, ap, sym, refl, subst, ◌∙◌, arith}
 use Rattle.mm_subst.specs.declared.symbol.WSym.{WSym}
 use Rattle.mm_plain.specs.declared.plain.Plain.{Plain}
+use Rattle.mm_plain.specs.Shape.{Proof, size_of, height_of, depth_at, put, step_at, target_of, unknown, known, unknowns, placed}
+use Rattle.mm_plain.specs.Grafts.{cleared, cleared_in, grafted_in, raised}
 use Rattle.mm_plain.specs.Premises.{premises_of}
-use Rattle.mm_plain.specs.Shape.{Proof, size_of, height_of, step_at, target_of, known, unknowns, placed, put}
 use Rattle.mm_plain.specs.Valid.{IsValid, placed_in}
-use Rattle.mm_plain.proofs.Equations.{size_of-known}
 use Rattle.mm_plain.proofs.Kept.{valid-placed}
 use Rattle.mm_plain.proofs.Read.{unlabelled-one}
-use Rattle.std.specs.Prelude.{Result, Err}
-use Rattle.mm_tree.specs.Placed.{IsPlaced}
-use Rattle.mm_tree.specs.Trees.{State}
 use Rattle.mm_tree.specs.declared.fault.GraftFault.{GraftFault}
 use Rattle.mm_tree.proofs.Rooms.{no_room, same_error}
-use Rattle.mm_tree.proofs.Grown.{size-placed, size-unknowns, same_proof}
+use Rattle.mm_tree.proofs.Grown.{size-placed}
+use Rattle.mm_tree.specs.Lines.{Line}
+use Rattle.mm_tree.specs.Meanings.{mean, mean-unknown, count, youngest, text_now, unknown_timed}
+use Rattle.mm_tree.specs.Paths.{IsPut}
+use Rattle.mm_tree.specs.Placed.{IsPlaced, placed_timed}
+use Rattle.mm_tree.specs.Versions.{Versions, KeepsMarks, hand_plain, hand_node, hand_length, line_of}
+use Rattle.mm_tree.specs.Trees.{State, IsWhole, state_by, versions_of}
+use Rattle.mm_tree.specs.View.{Shared, values}
+use Rattle.mm_tree.specs.declared.timed.Text.{Text}
+use Rattle.mm_tree.specs.declared.timed.TimedTree.{TimedTree}
+use Rattle.mm_tree.proofs.Shapes.{length-values, size_of-mean, depth_at-mean, youngest-unknown}
+use Rattle.mm_tree.proofs.Keeping.{seven, seven-same, with_root, kept-root, values-append, length-line}
+use Rattle.mm_tree.proofs.Made.{more-plain, more-whole, placed-mean, placed-young, on-ok, IsFine, fine}
 use Rattle.mm_tree.proofs.tree.Tree.place.Goals as goal
 
 pub known_over-requires-clause-few : goal.known_over-requires-clause-few
@@ -32,36 +41,22 @@ returns-in_err-room-clause-placed g c =
     let same : c.from_residual.result ≡ Err c.in_err-room.field-0.0 = same_error c.from_residual.result c.in_err-room.field-0.0 c.from_residual.ensures.1 c.from_residual.ensures.0 in
     subst (λ (r : Result Unit GraftFault). IsPlaced r c.args.self.now c.args.self.now (placed_in c.args.db.now c.args.self.now.proof c.args.step c.args.id.0 c.args.sigma.now)) (sym same) none
 
-pub put-requires-clause-small : goal.put-requires-clause-small
-put-requires-clause-small g c =
+pub replace_step-requires : goal.replace_step-requires
+replace_step-requires g c =
     let x = c.args.self.now.proof.plain in
     let id = c.args.id.0 in
     let sigma = c.args.sigma.now in
     let hs = premises_of c.args.db.now id in
-    let root : c.self.inside.root ≡ x = ap (λ (s : State). s.proof.plain) c.self.view_is in
     let room = c.in_ok-room.ensures sigma in
-    let one : size_of (step_at x c.args.step) ≡ 1 = unlabelled-one (step_at x c.args.step) c.requires.unknown in
-    let s = size-placed x c.args.step id sigma hs c.requires.exists.0 c.requires.exists.1 one in
-    let few = c.self.invariant.few in
-    omega (arith, ap size_of c.in_ok-node.ensures.node, size_of-known c.target.result.now id sigma (unknowns sigma hs), size-unknowns sigma hs)
-
-pub invariant_of-self : goal.invariant_of-self
-invariant_of-self g c =
-    let x = c.args.self.now.proof.plain in
-    let id = c.args.id.0 in
-    let sigma = c.args.sigma.now in
-    let hs = premises_of c.args.db.now id in
-    let root : c.self.inside.root ≡ x = ap (λ (s : State). s.proof.plain) c.self.view_is in
-    let room = c.in_ok-room.ensures sigma in
-    let n : c.put.new.self ≡ placed x c.args.step id sigma hs =
-    c.put.ensures ∙ ap (put c.self.inside.root c.from-step.result) (c.in_ok-node.ensures.node ∙ ap (λ (t : List WSym). known t id sigma (unknowns sigma hs)) (c.target.ensures ∙ ap target_of c.at.ensures))
-    ∙ ap (λ (y : Plain). placed y c.from-step.result id sigma hs) root
-    ∙ ap (λ (k : ℕ). placed x k id sigma hs) c.from-step.ensures in
+    let new : mean c.in_ok-node.node.value (line_of c.args.self.now.versions true) ≡ known (target_of (step_at x c.args.step)) id sigma (unknowns sigma hs)
+    = ap (λ (y : TimedTree). mean y (line_of c.args.self.now.versions true)) c.in_ok-node.ensures.node
+    ∙ placed-mean (line_of c.args.self.now.versions true) c.length-born.result c.in_ok-target.target.value id sigma hs (omega (arith, c.length-born.ensures.line))
+    ∙ ap (λ (t : List WSym). known t id sigma (unknowns sigma hs)) c.in_ok-target.ensures.now in
     record {
-      few = omega (arith, room.0, ap size_of n);
-      low = omega (arith, room.1, ap height_of n);
-      first = c.self.invariant.first;
-      last = c.self.invariant.last;
+      exists = c.requires.exists;
+      born = omega (arith, ap youngest c.in_ok-node.ensures.node, c.length-born.ensures.hand, placed-young c.length-born.result c.in_ok-target.target.value id sigma hs (omega (arith, c.in_ok-target.ensures.born, c.length-born.ensures.hand)));
+      few = subst (λ (y : Plain). size_of (put x c.args.step y) ≤ 1000000) (sym new) room.0;
+      low = subst (λ (y : Plain). height_of (put x c.args.step y) ≤ 2000) (sym new) room.1;
     }
 
 pub returns-clause-placed : goal.returns-clause-placed
@@ -70,16 +65,12 @@ returns-clause-placed g c =
     let id = c.args.id.0 in
     let sigma = c.args.sigma.now in
     let hs = premises_of c.args.db.now id in
-    let root : c.self.inside.root ≡ x = ap (λ (s : State). s.proof.plain) c.self.view_is in
     let room = c.in_ok-room.ensures sigma in
-    let n : c.put.new.self ≡ placed x c.args.step id sigma hs =
-    c.put.ensures ∙ ap (put c.self.inside.root c.from-step.result) (c.in_ok-node.ensures.node ∙ ap (λ (t : List WSym). known t id sigma (unknowns sigma hs)) (c.target.ensures ∙ ap target_of c.at.ensures))
-    ∙ ap (λ (y : Plain). placed y c.from-step.result id sigma hs) root
-    ∙ ap (λ (k : ℕ). placed x k id sigma hs) c.from-step.ensures in (
-      same_proof c.put.new.self (placed x c.args.step id sigma hs) c.self.inside.next c.args.self.now.proof.next n (ap (λ (s : State). s.proof.next) c.self.view_is),
-      room.0,
-      room.1,
-    )
+    let new : mean c.in_ok-node.node.value (line_of c.args.self.now.versions true) ≡ known (target_of (step_at x c.args.step)) id sigma (unknowns sigma hs)
+    = ap (λ (y : TimedTree). mean y (line_of c.args.self.now.versions true)) c.in_ok-node.ensures.node
+    ∙ placed-mean (line_of c.args.self.now.versions true) c.length-born.result c.in_ok-target.target.value id sigma hs (omega (arith, c.length-born.ensures.line))
+    ∙ ap (λ (t : List WSym). known t id sigma (unknowns sigma hs)) c.in_ok-target.ensures.now in
+    (c.in_ok-replace_step.ensures.ok ∙ ap (grafted_in c.args.self.now.proof c.args.step) new, room.0, room.1)
 
 pub returns-clause-valid : goal.returns-clause-valid
 returns-clause-valid g c =
@@ -87,13 +78,14 @@ returns-clause-valid g c =
     let id = c.args.id.0 in
     let sigma = c.args.sigma.now in
     let hs = premises_of c.args.db.now id in
-    let root : c.self.inside.root ≡ x = ap (λ (s : State). s.proof.plain) c.self.view_is in
     let room = c.in_ok-room.ensures sigma in
-    let n : c.put.new.self ≡ placed x c.args.step id sigma hs =
-    c.put.ensures ∙ ap (put c.self.inside.root c.from-step.result) (c.in_ok-node.ensures.node ∙ ap (λ (t : List WSym). known t id sigma (unknowns sigma hs)) (c.target.ensures ∙ ap target_of c.at.ensures))
-    ∙ ap (λ (y : Plain). placed y c.from-step.result id sigma hs) root
-    ∙ ap (λ (k : ℕ). placed x k id sigma hs) c.from-step.ensures in
-    let same = same_proof c.put.new.self (placed x c.args.step id sigma hs) c.self.inside.next c.args.self.now.proof.next n (ap (λ (s : State). s.proof.next) c.self.view_is) in
+    let new : mean c.in_ok-node.node.value (line_of c.args.self.now.versions true) ≡ known (target_of (step_at x c.args.step)) id sigma (unknowns sigma hs)
+    = ap (λ (y : TimedTree). mean y (line_of c.args.self.now.versions true)) c.in_ok-node.ensures.node
+    ∙ placed-mean (line_of c.args.self.now.versions true) c.length-born.result c.in_ok-target.target.value id sigma hs (omega (arith, c.length-born.ensures.line))
+    ∙ ap (λ (t : List WSym). known t id sigma (unknowns sigma hs)) c.in_ok-target.ensures.now in
     λ at goal v fits.
-    let P : Proof → Type 0 = λ p. IsValid c.args.db.now at goal p in
-    subst P (sym same) (valid-placed c.args.db.now at goal c.args.self.now.proof c.args.step id sigma v c.requires.exists.0 c.requires.exists.1 fits room.0 room.1)
+    subst (IsValid c.args.db.now at goal) (sym (c.in_ok-replace_step.ensures.ok ∙ ap (grafted_in c.args.self.now.proof c.args.step) new))
+    (valid-placed c.args.db.now at goal c.args.self.now.proof c.args.step id sigma v c.requires.exists.0 c.requires.exists.1 fits room.0 room.1)
+
+pub returns-clause-cost : goal.returns-clause-cost
+returns-clause-cost g c = omega (arith, c.in_ok-replace_step.ensures.cost, c.in_ok-node.ensures.cost)

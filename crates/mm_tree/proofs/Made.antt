@@ -1,0 +1,131 @@
+-- The version in hand, and what each call makes of it.
+use Rattle.std.proofs.Common.{◌≡◌, ℕ, ◌+◌, ◌-◌, ◌≤◌, ◌<◌, max, true, List, [], ◌∷◌, ◌++◌, map, length, refl, sym, ◌∙◌, ap, subst, arith, length-append, Result, Ok, Err, IfOk, OnOk}
+use Rattle.std.specs.List.{sum_by}
+use Rattle.std.proofs.lemmas.List.Sums.{sum_by-cons}
+use Rattle.mm_subst.specs.declared.symbol.WSym.{WSym}
+use Rattle.mm_subst.specs.Substitutions.{Pairs, applied}
+use Rattle.mm_plain.specs.declared.plain.Plain.{Plain}
+use Rattle.mm_plain.specs.Shape.{Proof, unknown, known, unknowns, size_of, height_of, greatest, put}
+use Rattle.mm_plain.specs.Valid.{most_steps, most_levels}
+use Rattle.mm_plain.specs.Binding.{bound, bound_in, HasWorkKeys}
+use Rattle.mm_tree.specs.Lines.{Line}
+use Rattle.mm_tree.specs.Meanings.{mean, means, mean-unknown, mean-known, text_now, sigma_now, unknown_timed, known_timed, count, tall, youngest}
+use Rattle.mm_tree.specs.Falls.{count-unknown}
+use Rattle.mm_tree.specs.Paths.{IsPut}
+use Rattle.mm_tree.specs.Placed.{unknowns_timed, placed_timed}
+use Rattle.mm_tree.specs.Versions.{Versions, line_of, hand_node, hand_length, hand_plain, IsSound}
+use Rattle.mm_tree.specs.Trees.{State, state_by, IsWhole}
+use Rattle.mm_tree.specs.declared.timed.Text.{Text}
+use Rattle.mm_tree.specs.declared.timed.Values.{Values}
+use Rattle.mm_tree.specs.declared.timed.TimedTree.{TimedTree}
+use Rattle.mm_tree.proofs.Shapes.{size_of-mean, height_of-mean, youngest-unknown, youngest-known, tall-unknown}
+use Rattle.mm_tree.proofs.Bindings.{string-new, values-new, mean-bind}
+use Rattle.mm_tree.proofs.Keeping.{with_root, with_binding, hand-more, length-line, line-more, seven}
+
+-- what holds of a tree as it is seen
+pub record IsFine (s : State) : Type 0 where
+  pub whole : IsWhole s.versions s.proof.next
+  pub plain : hand_plain s.versions ≡ s.proof.plain
+
+pub fine : (v : Versions) (next : ℕ) (s : State) → state_by v next ≡ s → IsWhole v next → IsFine s
+fine v next s e w = subst IsFine e (record { whole = w; plain = refl })
+
+-- unknown steps that are as young as the version, and a known step over them
+unknowns-means : (line : Line) (born : ℕ) (sigma : Pairs) (hs : List (List WSym)) → length line ≤ born → means line (unknowns_timed born sigma hs) ≡ unknowns sigma hs
+unknowns-means line born sigma [] h = refl
+unknowns-means line born sigma (s ∷ ss) h =
+    ap (λ (n : Plain). n ∷ means line (unknowns_timed born sigma ss)) (mean-unknown (record { birth = born; string = applied sigma s }) line ∙ ap unknown (string-new line born (applied sigma s) h))
+    ∙ ap (λ (n : List Plain). unknown (applied sigma s) ∷ n) (unknowns-means line born sigma ss h)
+
+pub placed-mean : (line : Line) (born : ℕ) (t : Text) (id : ℕ) (sigma : Pairs) (hs : List (List WSym)) → length line ≤ born → mean (placed_timed born t id sigma hs) line ≡ known (text_now line t) id sigma (unknowns sigma hs)
+placed-mean line born t id sigma hs h =
+    mean-known t id (record { birth = born; pairs = sigma }) (unknowns_timed born sigma hs) line
+    ∙ ap (λ (ps : Pairs). known (text_now line t) id ps (means line (unknowns_timed born sigma hs))) (values-new line born sigma h)
+    ∙ ap (known (text_now line t) id sigma) (unknowns-means line born sigma hs h)
+
+unknowns-young : (born : ℕ) (sigma : Pairs) (hs : List (List WSym)) → greatest (map youngest (unknowns_timed born sigma hs)) ≤ born
+unknowns-young born sigma [] = omega arith
+unknowns-young born sigma (s ∷ ss) = omega (arith, unknowns-young born sigma ss, youngest-unknown (record { birth = born; string = applied sigma s }))
+
+pub placed-young : (born : ℕ) (t : Text) (id : ℕ) (sigma : Pairs) (hs : List (List WSym)) → t.birth ≤ born → youngest (placed_timed born t id sigma hs) ≤ born
+placed-young born t id sigma hs h =
+    omega (arith, h, youngest-known t id (record { birth = born; pairs = sigma }) (unknowns_timed born sigma hs), unknowns-young born sigma hs)
+
+pub unknowns-count : (born : ℕ) (sigma : Pairs) (hs : List (List WSym)) → sum_by count (unknowns_timed born sigma hs) ≡ length hs
+unknowns-count born sigma [] = refl
+unknowns-count born sigma (s ∷ ss) =
+    sum_by-cons count (unknown_timed (record { birth = born; string = applied sigma s })) (unknowns_timed born sigma ss)
+    ∙ omega (arith, unknowns-count born sigma ss, count-unknown (record { birth = born; string = applied sigma s }))
+
+-- one root more
+pub more-plain : (v : Versions) (next k : ℕ) (new y : TimedTree) → IsWhole v next → IsPut (hand_node v) k new y → hand_plain (with_root v y) ≡ put (hand_plain v) k (mean new (line_of v true))
+more-plain v next k new y w p = ap (λ (x : TimedTree). mean x (line_of v true)) (hand-more v y next w) ∙ p.meaning (line_of v true)
+
+pub more-whole : (v : Versions) (next k : ℕ) (new y : TimedTree) → IsWhole v next → IsPut (hand_node v) k new y → youngest new ≤ hand_length v
+    → size_of (put (hand_plain v) k (mean new (line_of v true))) ≤ most_steps → height_of (put (hand_plain v) k (mean new (line_of v true))) ≤ most_levels → IsWhole (with_root v y) next
+more-whole v next k new y w p young few low = record {
+  begun_root = w.begun_root;
+  begun_length = w.begun_length;
+  sound = subst (λ (x : TimedTree). IsSound x (hand_length v) next) (sym (hand-more v y next w)) sound-y;
+  turn = w.turn;
+}
+  where
+    sound-y : IsSound y (hand_length v) next
+    sound-y = record {
+      born = let b = w.sound.born in let c = p.births in omega arith;
+      few = omega (arith, few, size_of-mean (line_of v true) y, ap size_of (p.meaning (line_of v true)));
+      low = omega (arith, low, height_of-mean (line_of v true) y, ap height_of (p.meaning (line_of v true)));
+      first = w.sound.first;
+      last = w.sound.last;
+    }
+
+-- one binding more
+pub bound-plain : (v : Versions) (next : ℕ) (theta : Pairs) → HasWorkKeys theta → IsWhole v next → hand_plain (with_binding v theta) ≡ bound theta (hand_plain v)
+bound-plain v next theta keys w = ap (mean (hand_node v)) (line-more v theta) ∙ mean-bind (line_of v true) theta keys (hand_node v) (let b = w.sound.born in omega (arith, length-line v next w))
+
+pub bound-whole : (v : Versions) (next : ℕ) (theta : Pairs) → IsWhole v next → IsWhole (with_binding v theta) next
+bound-whole v next theta w = record {
+  begun_root = w.begun_root;
+  begun_length = w.begun_length;
+  sound = record {
+    born = let b = w.sound.born in omega (arith, length-append v.draft_bindings (theta ∷ []));
+    few = w.sound.few;
+    low = w.sound.low;
+    first = w.sound.first;
+    last = w.sound.last;
+  };
+  turn = w.turn;
+}
+
+-- a tree of one unknown step
+pub begun-whole : (t : Text) → t.birth ≡ 0 → IsWhole (seven (unknown_timed t ∷ []) [] [] [] 0 0 1) 1
+begun-whole t h = record {
+  begun_root = omega arith;
+  begun_length = omega arith;
+  sound = record {
+    born = omega (arith, youngest-unknown t, h);
+    few = omega (arith, count-unknown t);
+    low = omega (arith, tall-unknown t);
+    first = omega arith;
+    last = omega arith;
+  };
+  turn = omega arith;
+}
+
+pub begun-plain : (t : Text) → t.birth ≡ 0 → hand_plain (seven (unknown_timed t ∷ []) [] [] [] 0 0 1) ≡ unknown t.string
+begun-plain t h = mean-unknown t [] ∙ ap unknown (string-new [] t.birth t.string (omega arith))
+
+-- what holds of an answer, if there is one
+pub if-ok : {X E : Type 0} (r : Result X E) (P Q : X → Type 0) → ((x : X) → P x → Q x) → IfOk r P → IfOk r Q
+if-ok (Ok x) P Q f h = f x h
+if-ok (Err e) P Q f h = tt
+
+pub on-ok : {E : Type 0} (r : Result Unit E) (P Q : Type 0) → (P → Q) → OnOk r P → OnOk r Q
+on-ok (Ok x) P Q f h = f h
+on-ok (Err e) P Q f h = tt
+
+pub fine-few : (s : State) → IsFine s → size_of s.proof.plain ≤ 1000000
+fine-few s f = let a = f.whole.sound.few in omega (arith, a, size_of-mean (line_of s.versions true) (hand_node s.versions), ap size_of f.plain)
+
+pub fine-low : (s : State) → IsFine s → height_of s.proof.plain ≤ 2000
+fine-low s f = let a = f.whole.sound.low in omega (arith, a, height_of-mean (line_of s.versions true) (hand_node s.versions), ap height_of f.plain)

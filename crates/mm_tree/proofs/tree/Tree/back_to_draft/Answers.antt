@@ -1,0 +1,47 @@
+use Rattle.std.proofs.Common.{◌≡◌, ℕ, ◌+◌, ◌-◌, ◌≤◌, List, [], ◌∷◌, ◌++◌, true, take, length, ap, sym, refl, subst, ◌∙◌, arith}
+use Rattle.mm_plain.specs.declared.plain.Plain.{Plain}
+use Rattle.mm_plain.specs.Shape.{Proof, size_of, height_of, depth_at, put}
+use Rattle.mm_tree.specs.Meanings.{mean, count, youngest}
+use Rattle.mm_tree.specs.Paths.{IsPut}
+use Rattle.mm_tree.specs.Versions.{Versions, IsAlive, KeepsMarks, KeepsOlder, KeepsUpTo, HasNoDrafts, hand_plain, hand_node, hand_length, hand_root, line_of, named}
+use Rattle.mm_tree.specs.Trees.{State, IsWhole, versions_of}
+use Rattle.mm_tree.specs.View.{Shared, values}
+use Rattle.mm_tree.specs.declared.timed.TimedTree.{TimedTree}
+use Rattle.mm_tree.proofs.Shapes.{length-values, size_of-mean, depth_at-mean}
+use Rattle.mm_tree.proofs.Keeping.{seven, seven-same, settled, plain-settled, whole-settled, older-settled, with_root, kept-root, cut_to, plain-cut, whole-cut, kept-cut, set_to, plain-set, whole-set, kept-set, settled-mark, values-take, values-append, values-moved, pairs-moved}
+use Rattle.mm_tree.proofs.Made.{more-plain, more-whole}
+use Rattle.mm_tree.proofs.tree.Tree.back_to_draft.Goals as goal
+
+abbrev proof_by : ℕ → Plain → Proof
+proof_by next p = record { plain = p; next = next }
+
+pub invariant_of-self : goal.invariant_of-self
+invariant_of-self c =
+    let v : Versions = versions_of c.self.inside in
+    let e : seven (values c.self.inside.roots.items) c.self.inside.trail.items (values c.truncate.new.self.items) c.truncate-2.new.self.items c.self.inside.begun_root c.self.inside.begun_length c.self.inside.turn ≡ cut_to v c.args.m
+    = seven-same refl refl (ap values c.truncate.ensures.items ∙ values-take (c.args.m.root - c.self.inside.begun_root) c.self.inside.draft_roots.items) c.truncate-2.ensures.items refl refl refl in
+    let a : IsAlive v c.args.m = subst (λ (s : State). IsAlive s.versions c.args.m) (sym c.self.view_is) c.requires.alive in
+    let r = c.self.invariant.roots in
+    let t = c.self.invariant.trail in
+    record {
+      whole = subst (λ (w : Versions). IsWhole w c.args.m.next) (sym e) (whole-cut v c.args.m c.self.inside.next c.self.invariant.whole c.requires.kind a);
+      roots = omega (arith, c.truncate.ensures.len);
+      trail = omega (arith, c.truncate-2.ensures.len);
+    }
+
+pub returns-clause-proof : goal.returns-clause-proof
+returns-clause-proof c =
+    let v : Versions = versions_of c.self.inside in
+    let e : seven (values c.self.inside.roots.items) c.self.inside.trail.items (values c.truncate.new.self.items) c.truncate-2.new.self.items c.self.inside.begun_root c.self.inside.begun_length c.self.inside.turn ≡ cut_to v c.args.m
+    = seven-same refl refl (ap values c.truncate.ensures.items ∙ values-take (c.args.m.root - c.self.inside.begun_root) c.self.inside.draft_roots.items) c.truncate-2.ensures.items refl refl refl in
+    let a : IsAlive v c.args.m = subst (λ (s : State). IsAlive s.versions c.args.m) (sym c.self.view_is) c.requires.alive in
+    ap (λ (w : Versions). proof_by c.args.m.next (hand_plain w)) e ∙ ap (proof_by c.args.m.next) (plain-cut v c.args.m c.self.inside.next c.self.invariant.whole c.requires.kind a) ∙ ap (λ (s : State). named s.versions c.args.m) c.self.view_is
+
+pub returns-clause-marks : goal.returns-clause-marks
+returns-clause-marks c =
+    let v : Versions = versions_of c.self.inside in
+    let e : seven (values c.self.inside.roots.items) c.self.inside.trail.items (values c.truncate.new.self.items) c.truncate-2.new.self.items c.self.inside.begun_root c.self.inside.begun_length c.self.inside.turn ≡ cut_to v c.args.m
+    = seven-same refl refl (ap values c.truncate.ensures.items ∙ values-take (c.args.m.root - c.self.inside.begun_root) c.self.inside.draft_roots.items) c.truncate-2.ensures.items refl refl refl in
+    let a : IsAlive v c.args.m = subst (λ (s : State). IsAlive s.versions c.args.m) (sym c.self.view_is) c.requires.alive in
+    subst (λ (s : State). KeepsUpTo c.args.m s.versions (seven (values c.self.inside.roots.items) c.self.inside.trail.items (values c.truncate.new.self.items) c.truncate-2.new.self.items c.self.inside.begun_root c.self.inside.begun_length c.self.inside.turn)) c.self.view_is
+    (subst (λ (w : Versions). KeepsUpTo c.args.m v w) (sym e) (kept-cut v c.args.m c.self.inside.next c.self.invariant.whole c.requires.kind a))

@@ -1,0 +1,14 @@
+use Rattle.std.proofs.Common.{[], ◌++◌, List, Option, None, is_none, true, ap, sym, subst, ◌∙◌, arith}
+use Rattle.std.specs.List.{last_or}
+use Rattle.mm_plain.specs.declared.plain.Plain.{Plain}
+use Rattle.mm_plain.specs.Shape.{steps_of}
+use Rattle.mm_plain.specs.Sources.{is_pending}
+use Rattle.mm_plain.specs.Numbers.{labels_in, numbers_from, unknowns_among, HasOwnLabels}
+use Rattle.mm_tree.specs.Meanings.{mean}
+use Rattle.mm_tree.specs.Versions.{line_of}
+use Rattle.mm_tree.proofs.Shapes.{labels_in-mean, unknowns-mean}
+use Rattle.mm_tree.proofs.Kids.{unknown_count-le-count}
+use Rattle.mm_tree.proofs.tree.Tree.last_unknown.Goals as goal
+
+pub returns : goal.returns
+returns c = c.last_unknown.ensures ∙ ap (λ l. last_or None (numbers_from is_none 1 l)) (sym (labels_in-mean (line_of c.args.self.now.versions true) c.hand.result.now) ∙ ap labels_in c.hand.ensures.plain)
