@@ -1,13 +1,13 @@
 -- The labels of trees, laid step by step.
-use Rattle.std.proofs.Common.{◌≡◌, ℕ, zero, suc, ◌+◌, ◌-◌, ◌<◌, ◌≤◌, Bool, true, false, cond, nat_le, List, [], ◌∷◌, ◌++◌, length, map, take, drop, get_or, slice_get, slice_range, unwrap_or, Option, None, Some, All, refl, sym, ap, ◌∙◌, subst, arith, append_assoc, length-append}
+use Rattle.std.proofs.Common.{◌≡◌, ℕ, zero, suc, ◌+◌, ◌-◌, ◌<◌, ◌≤◌, Bool, true, false, cond, nat_le, List, [], ◌∷◌, ◌++◌, length, take, drop, get_or, slice_get, slice_range, Option, None, Some, All, refl, sym, ap, ◌∙◌, subst, arith, append_assoc, length-append}
 use Rattle.std.specs.List.{AllByRecursion}
-use Rattle.std.proofs.lemmas.List.{append-nil, take_at, drop_at, take-append-drop, drop_all, take_all, drop-append-le, take-append-le, length-drop, drop_more, drop-map, length-map, take_more, get_or-drop}
-use Rattle.std.proofs.lemmas.List.Elements.{All-push, recursion_from_All, All-from_recursion}
+use Rattle.std.proofs.lemmas.List.{drop_at, take-append-drop, drop_all, take_all, drop-append-le, take-append-le, length-drop, length-map, take_more, get_or-drop}
+use Rattle.std.proofs.lemmas.List.Elements.{recursion_from_All, All-from_recursion}
 use Rattle.std.proofs.lemmas.Bool.Decides.{nat_tests}
 use Rattle.std.proofs.lemmas.Option.{none-some, same_Some}
 use Rattle.mm_scope.specs.Contents.{labels_of}
-use Rattle.mm_proof.specs.Trees.{Tree, Trees, none, more, tree, trees_of, postorder}
-use Rattle.mm_proof.specs.Folding.{onward, has_enough, kept, joined, Folded, nothing, pushed, fold_step, folded, fold}
+use Rattle.mm_proof.specs.Trees.{Tree, none, tree, trees_of, postorder}
+use Rattle.mm_proof.specs.Folding.{onward, has_enough, kept, joined, Folded, nothing, pushed, fold_step, folded}
 use Rattle.mm_proof.specs.Forests.{arity_of, plain, plain_steps, trees_in}
 use Rattle.mm_proof.specs.Arities.{takes}
 use Rattle.mm_proof.specs.Parts.{one}
@@ -18,7 +18,7 @@ use Rattle.mm_proof.specs.declared.step.ProofStep.{ProofStep}
 use Rattle.mm_proof.specs.declared.step.StepKind.{StepKind}
 use Rattle.mm_proof.specs.declared.step.StepKind.TheVariants as kind
 use Rattle.mm_proof.specs.declared.written.Step.{Step}
-use Rattle.mm_proof.specs.declared.written.Step.TheVariants.{Label, Unknown, Back}
+use Rattle.mm_proof.specs.declared.written.Step.TheVariants.{Label}
 use Rattle.mm_proof.proofs.Shaped.{goes_on}
 
 pub postorder-append : (xs ys : List Tree) → postorder (trees_of (xs ++ ys)) ≡ postorder (trees_of xs) ++ postorder (trees_of ys)

@@ -20,3 +20,4 @@ pub mod Orders
 pub mod Flattened
 pub mod Worded
 pub mod Wholes
+pub mod Refolded

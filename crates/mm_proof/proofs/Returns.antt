@@ -1,5 +1,5 @@
 -- The letters of steps spell these steps.
-use Rattle.std.proofs.Common.{◌≡◌, ℕ, suc, ◌+◌, ◌-◌, ◌*◌, ◌<◌, Bool, true, false, cond, not, eqb, ◌||◌, List, [], ◌∷◌, ◌++◌, length, map, slice_get, option_map, Option, None, Some, Result, Ok, Err, refl, sym, ap, ◌∙◌, subst, arith, append_assoc, length-append, eq-eqb}
+use Rattle.std.proofs.Common.{◌≡◌, ℕ, suc, ◌+◌, ◌-◌, ◌*◌, ◌<◌, Bool, true, false, cond, not, eqb, ◌||◌, List, [], ◌∷◌, ◌++◌, length, map, slice_get, option_map, Some, refl, sym, ap, ◌∙◌, arith, append_assoc, length-append, eq-eqb}
 use Rattle.std.proofs.lemmas.List.{append-nil, length-map, map_push}
 use Rattle.std.proofs.lemmas.Option.{slice_get_past, slice_get-map}
 use Rattle.std.proofs.lemmas.Bool.Decides.{nat_tests, Decides-eqb}
@@ -10,8 +10,8 @@ use Rattle.mm_proof.specs.declared.written.Step.{Step}
 use Rattle.mm_proof.specs.declared.written.Step.TheVariants.{Label, Unknown, Back}
 use Rattle.mm_proof.specs.Faults.{after}
 use Rattle.mm_proof.specs.Numbers.{letters_of, Spells, last_letter, lead_letter, letter_of}
-use Rattle.mm_proof.specs.Reading.{Placed, placed, Reading, tag_last, tagged_step, step_by, step_numbered, with_step, read_letter, unless_empty, read_from}
-use Rattle.mm_proof.specs.Spelling.{place_in, is_among, number_of, spelled, with_tag, tags_then, letters_from, kind_for, steps_tagged, HasLabels}
+use Rattle.mm_proof.specs.Reading.{placed, Reading, tag_last, tagged_step, step_by, step_numbered, with_step, read_letter, unless_empty, read_from}
+use Rattle.mm_proof.specs.Spelling.{place_in, is_among, spelled, with_tag, tags_then, letters_from, steps_tagged, HasLabels}
 use Rattle.mm_proof.specs.Steps.{untagged}
 use Rattle.mm_proof.proofs.Digits.{letters_spell}
 

@@ -1,11 +1,10 @@
 -- The shapes of the trees of steps, step by step.
-use Rattle.std.proofs.Common.{◌≡◌, ◌≢◌, ℕ, zero, suc, ◌+◌, ◌-◌, ◌<◌, ◌≤◌, Bool, true, false, cond, min, max, List, [], ◌∷◌, ◌++◌, length, map, take, drop, get_or, slice_get, option_map, Option, None, Some, nat_le, refl, sym, ap, ◌∙◌, subst, arith}
+use Rattle.std.proofs.Common.{◌≡◌, ◌≢◌, ℕ, ◌+◌, ◌-◌, ◌<◌, ◌≤◌, true, false, cond, min, List, [], ◌∷◌, ◌++◌, length, map, take, drop, get_or, slice_get, option_map, Option, None, Some, refl, sym, ap, ◌∙◌, subst, arith}
 use Rattle.std.proofs.lemmas.List.{drop_more, drop_all, take-map, drop-map, map_push, length-map, take_all}
 use Rattle.std.proofs.lemmas.Bool.Decides.{nat_tests}
 use Rattle.std.proofs.lemmas.Option.{none-some, same_Some, slice_get-map}
-use Rattle.mm_proof.specs.Trees.{Tree, Trees, none, more, tree, trees_of}
-use Rattle.mm_proof.specs.Folding.{onward, has_enough, kept, joined, Folded, nothing, pushed, fold_step, folded, fold}
-use Rattle.mm_proof.specs.Compacting.{alone}
+use Rattle.mm_proof.specs.Trees.{Tree, none, tree, trees_of}
+use Rattle.mm_proof.specs.Folding.{onward, has_enough, kept, joined, Folded, nothing, pushed, fold_step, folded}
 use Rattle.mm_proof.specs.Forests.{arity_of, plain, plain_steps, trees_in}
 use Rattle.mm_proof.specs.Arities.{takes}
 use Rattle.mm_proof.specs.Shapes.{steps_in, height_in, most_told, shape_of, shape_by, total, greatest, joined_shape}
@@ -15,7 +14,7 @@ use Rattle.mm_proof.specs.declared.step.ProofStep.{ProofStep}
 use Rattle.mm_proof.specs.declared.step.StepKind.{StepKind}
 use Rattle.mm_proof.specs.declared.step.StepKind.TheVariants as kind
 use Rattle.mm_proof.specs.declared.written.Step.{Step}
-use Rattle.mm_proof.specs.declared.written.Step.TheVariants.{Label, Unknown, Back}
+use Rattle.mm_proof.specs.declared.written.Step.TheVariants.{Label}
 
 -- the shapes of children give that of their parent
 steps_are : (n : ℕ) (ts : List Tree) → min most_told (n + total (map shape_of ts)) ≡ min most_told (n + steps_in (trees_of ts))

@@ -1,10 +1,10 @@
 -- The trees that steps fold to take as many children as their labels do; their labels are listed and spelled.
-use Rattle.std.proofs.Common.{◌≡◌, ℕ, zero, suc, ◌+◌, ◌-◌, ◌<◌, ◌≤◌, Bool, true, false, cond, nat_le, List, [], ◌∷◌, ◌++◌, length, map, take, drop, slice_get, unwrap_or, Option, None, Some, Result, Ok, Err, IfOk, refl, sym, ap, ◌∙◌, subst, arith, length-append}
+use Rattle.std.proofs.Common.{◌≡◌, ℕ, zero, suc, ◌+◌, ◌-◌, ◌≤◌, Bool, true, false, cond, List, [], ◌∷◌, ◌++◌, length, map, take, drop, slice_get, unwrap_or, Option, None, Some, Result, Ok, Err, IfOk, refl, sym, ap, ◌∙◌, subst, arith, length-append}
 use Rattle.std.specs.List.{AllByRecursion, flat_map}
 use Rattle.std.proofs.lemmas.List.{length-drop, length-map}
 use Rattle.std.proofs.lemmas.Bool.Decides.{nat_tests}
 use Rattle.std.proofs.lemmas.Option.{none-some, same_Some}
-use Rattle.mm_proof.specs.Trees.{Tree, Trees, none, more, tree, trees_of, list_of, AreWhole, postorder}
+use Rattle.mm_proof.specs.Trees.{Tree, none, tree, trees_of, list_of, AreWhole, postorder}
 use Rattle.mm_proof.specs.Folding.{onward, has_enough, kept, joined, built, Folded, nothing, pushed, fold_step, folded, fold}
 use Rattle.mm_proof.specs.Backs.{AreBacks}
 use Rattle.mm_proof.specs.Compacting.{compact, Compacts}

@@ -1,5 +1,5 @@
 -- What the encoders answer.
-use Rattle.std.specs.Prelude.{◌≡◌, ℕ, List, [], ◌∷◌, length, Some}
+use Rattle.std.specs.Prelude.{◌≡◌, ℕ, List, [], ◌∷◌, Some}
 use Rattle.std.specs.List.{flat_map}
 use Rattle.mm_proof.specs.Trees.{Tree, postorder, trees_of}
 use Rattle.mm_proof.specs.Forests.{trees_in}

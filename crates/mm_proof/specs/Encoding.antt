@@ -1,8 +1,10 @@
 -- The texts that are written for a label tree.
-use Rattle.std.specs.Prelude.{◌≡◌, ℕ, zero, suc, ◌+◌, ◌%◌, ◌==◌, List, [], ◌∷◌, ◌++◌, length, map, slice_index_or, if◌then◌else◌}
-use Rattle.std.specs.List.{flat_map}
+use Rattle.std.specs.Prelude.{ℕ, zero, suc, ◌+◌, ◌%◌, ◌==◌, List, [], ◌∷◌, ◌++◌, map, slice_index_or, if◌then◌else◌}
 use Rattle.mm_layout.specs.Normal.{margin, lines_of, behind_feeds, normal_text}
 use Rattle.mm_scope.specs.Contents.{labels_of, stated_at}
+use Rattle.mm_stated.specs.Stated.{is_hypothesis}
+use Rattle.mm_proof.specs.declared.step.StepKind.{StepKind}
+use Rattle.mm_proof.specs.declared.step.StepKind.TheVariants.{Hyp, Apply, Unknown}
 use Rattle.mm_proof.specs.Trees.{Tree, postorder, trees_of}
 use Rattle.mm_proof.specs.Compacting.{compact}
 use Rattle.mm_proof.specs.Spelling.{letters, used, line_of}
@@ -49,3 +51,8 @@ compressed_proof bytes at t =
 -- the same on one line: `( labels ) letters`
 abbrev pub one_line : List ℕ → ℕ → Tree → List ℕ
 one_line bytes at t = line_of (word_of bytes) (listed_labels bytes at t) (letters_for bytes at t)
+
+-- the step that a label by its number is: a hypothesis or an assertion; `?` for 0
+unfoldable pub kind_of : List ℕ → ℕ → StepKind
+kind_of bytes zero = Unknown
+kind_of bytes (suc n) = if is_hypothesis (stated_at bytes n).kind then Hyp (record { 0 = n }) else Apply (record { 0 = n })

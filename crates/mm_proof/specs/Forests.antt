@@ -1,5 +1,5 @@
 -- The label tree that the steps of a proof fold to.
-use Rattle.std.specs.Prelude.{ℕ, zero, suc, ◌+◌, ◌-◌, List, [], ◌∷◌, Option, length, map, if◌then◌else◌}
+use Rattle.std.specs.Prelude.{ℕ, zero, suc, ◌+◌, ◌-◌, List, Option, length, map, if◌then◌else◌}
 use Rattle.mm_scope.specs.Contents.{stated_at}
 use Rattle.mm_stated.specs.Stated.{is_hypothesis}
 use Rattle.mm_proof.specs.Trees.{Tree}

@@ -1,5 +1,5 @@
 -- How large a label tree is.
-use Rattle.std.specs.Prelude.{ℕ, ◌+◌, min, max, List, [], ◌∷◌, Option, None, Some, if◌then◌else◌}
+use Rattle.std.specs.Prelude.{ℕ, ◌+◌, min, max, List, [], ◌∷◌, Option, Some}
 use Rattle.mm_proof.specs.Trees.{Tree, Trees, none, more}
 use Rattle.mm_proof.specs.Folding.{onward}
 use Rattle.mm_proof.specs.Compacting.{alone}

@@ -1,5 +1,5 @@
 -- The shapes of the trees of steps.
-use Rattle.std.specs.Prelude.{ℕ, ◌-◌, List, Option, Some, slice_get}
+use Rattle.std.specs.Prelude.{◌-◌, List, Option, Some, slice_get}
 use Rattle.mm_proof.specs.Shapes.{joined_shape}
 use Rattle.mm_proof.specs.declared.extent.Shape.{Shape}
 use Rattle.mm_proof.specs.declared.step.StepKind.{StepKind}

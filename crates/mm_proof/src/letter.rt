@@ -4,7 +4,7 @@ ghost use Rattle.std.specs.Prelude.{◌≡◌};
 ghost use Rattle.mm_proof.specs.Numbers.{letter_of, IsDigit};
 
 /// What a byte is among the letters of a compressed proof.
-#[derive(Clone, Copy, Debug, PartialEq, Eq)]
+#[derive(Clone, Copy)]
 pub enum Letter {
     /// `A` to `T`: a last digit, 1 to 20.
     Last(u64),

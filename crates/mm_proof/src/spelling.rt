@@ -11,7 +11,7 @@ use std::alloc::{AllocError, Global};
 use std::collections::HashMap;
 
 /// A step as it is written: its number, 0 for `?`, and whether it has a tag.
-#[derive(Clone, Copy, Debug, PartialEq, Eq)]
+#[derive(Clone, Copy)]
 pub struct Spelt {
     pub number: u64,
     pub tag: bool,

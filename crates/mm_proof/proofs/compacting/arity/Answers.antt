@@ -1,4 +1,4 @@
-use Rattle.std.proofs.Common.{◌≡◌, ℕ, zero, refl, ap, sym, ◌∙◌, arith}
+use Rattle.std.proofs.Common.{ap, sym, ◌∙◌, arith}
 use Rattle.mm_proof.specs.Forests.{arity_of}
 use Rattle.mm_proof.proofs.Shaped.{arity_none}
 use Rattle.mm_proof.proofs.compacting.arity.Goals.{then-label-eq0-via-then-label-eq0, then-label-eq0-via-else-label-eq0+then-label-count}

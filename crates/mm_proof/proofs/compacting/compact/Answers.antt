@@ -1,4 +1,4 @@
-use Rattle.std.proofs.Common.{◌≡◌, ◌+◌, ◌-◌, ◌<◌, ℕ, ◌∷◌, ◌++◌, [], List, ap, sym, ◌∙◌, refl, take, drop, length, subst, get_or, arith}
+use Rattle.std.proofs.Common.{◌≡◌, ◌+◌, ◌-◌, ◌∷◌, ◌++◌, [], List, ap, sym, ◌∙◌, refl, take, drop, length, subst, get_or, arith}
 use Rattle.std.proofs.lemmas.List.{drop_all, take_rest}
 use Rattle.mm_scope.specs.Contents.{labels_of}
 use Rattle.mm_proof.specs.Forests.{arity_of}

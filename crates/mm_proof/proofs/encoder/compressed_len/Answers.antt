@@ -1,13 +1,10 @@
-use Rattle.std.proofs.Common.{◌≡◌, ◌+◌, ℕ, [], ◌∷◌, List, Some, length, ap, sym, ◌∙◌, subst}
+use Rattle.std.proofs.Common.{◌≡◌, ◌+◌, ℕ, length, ap, ◌∙◌}
 use Rattle.std.specs.List.{flat_map}
-use Rattle.mm_proof.specs.Encodes.{OfTree, Spells}
+use Rattle.mm_proof.specs.Encodes.{OfTree}
 use Rattle.mm_proof.specs.Encoding.{word_of, one_line}
 use Rattle.mm_proof.specs.Forests.{trees_in}
 use Rattle.mm_proof.specs.Numbered.{spell}
 use Rattle.mm_proof.specs.Spelling.{names_len}
-use Rattle.mm_proof.specs.Trees.{Tree}
-use Rattle.mm_proof.specs.declared.spelling.Spelt.{Spelt}
-use Rattle.mm_proof.specs.declared.step.ProofStep.{ProofStep}
 use Rattle.mm_proof.proofs.Wholes.{line_length, of_ok}
 use Rattle.mm_proof.proofs.encoder.compressed_len.Goals as goal
 

@@ -1,13 +1,12 @@
-use Rattle.std.proofs.Common.{◌≡◌, ◌+◌, ℕ, [], ◌∷◌, List, Some, length, map, refl, ap, sym, ◌∙◌, subst}
+use Rattle.std.proofs.Common.{◌≡◌, ◌+◌, ℕ, List, length, map, refl, ap, sym, ◌∙◌, subst}
 use Rattle.mm_proof.specs.Compacting.{Compacts}
 use Rattle.mm_proof.specs.Encodes.{OfTree, Spells}
 use Rattle.mm_proof.specs.Encoding.{own_labels}
-use Rattle.mm_proof.specs.Forests.{trees_in, arity_of}
+use Rattle.mm_proof.specs.Forests.{arity_of}
 use Rattle.mm_proof.specs.Numbered.{number_in, IsTable, Lists, Numbers}
-use Rattle.mm_proof.specs.Trees.{Tree}
 use Rattle.mm_proof.specs.declared.encoder.Spelled.{Spelled}
 use Rattle.mm_proof.specs.declared.written.Step.{Step}
-use Rattle.mm_proof.proofs.Wholes.{Listed, listed_tree, of_same}
+use Rattle.mm_proof.proofs.Wholes.{listed_tree, of_same}
 use Rattle.mm_proof.proofs.encoder.spell_out.Goals as goal
 
 pub returns-clause-spells : goal.returns-clause-spells

@@ -1,7 +1,6 @@
-use Rattle.std.proofs.Common.{◌≡◌, ◌+◌, ◌-◌, ◌<◌, ℕ, ◌++◌, ◌∷◌, [], List, All, length, get_or, take, ap, sym, ◌∙◌, subst, arith}
+use Rattle.std.proofs.Common.{◌≡◌, ◌+◌, ◌-◌, ℕ, ◌++◌, ◌∷◌, [], List, length, get_or, take, ap, sym, ◌∙◌, subst, arith}
 use Rattle.std.proofs.lemmas.List.{get_or_default}
 use Rattle.std.proofs.lemmas.List.Elements.{All-from_recursion}
-use Rattle.mm_scope.specs.Contents.{labels_of}
 use Rattle.mm_proof.specs.Arities.{takes}
 use Rattle.mm_proof.specs.Flattening.{begin_at, Lays}
 use Rattle.mm_proof.specs.Steps.{untagged, IsOwn}

@@ -1,4 +1,4 @@
-use Rattle.std.proofs.Common.{◌≡◌, ◌≤◌, ◌-◌, ◌++◌, max, length, slice_range}
+use Rattle.std.proofs.Common.{◌≡◌, ◌≤◌, ◌-◌, ◌++◌, max, slice_range}
 use Rattle.mm_proof.proofs.flat.repeat.Given as goal
 
 abbrev pub invariant-loop-place : goal.invariant-loop-place

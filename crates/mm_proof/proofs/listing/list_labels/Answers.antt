@@ -1,4 +1,4 @@
-use Rattle.std.proofs.Common.{get_or, refl, arith}
+use Rattle.std.proofs.Common.{get_or, refl}
 use Rattle.mm_proof.specs.Numbered.{number_in}
 use Rattle.mm_proof.specs.declared.written.Step.{Step}
 use Rattle.mm_proof.specs.declared.written.Step.TheVariants.{Label}

@@ -1,4 +1,4 @@
-use Rattle.std.proofs.Common.{◌≡◌, ◌+◌, get_or, refl, ap, arith}
+use Rattle.std.proofs.Common.{◌+◌, get_or, refl, ap}
 use Rattle.mm_proof.specs.Numbered.{number_in}
 use Rattle.mm_proof.proofs.Using.{given_more}
 use Rattle.mm_proof.proofs.listing.own_numbers.Goals as goal
