@@ -1,8 +1,9 @@
 -- What recorders have heard after calls one after another.
-use Rattle.std.proofs.Common.{◌≡◌, ◌≤◌, ℕ, Bool, List, [], ◌∷◌, ◌++◌, refl, sym, ◌∙◌, ap, subst, append_assoc}
+use Rattle.std.proofs.Common.{◌≡◌, ◌≤◌, ℕ, Bool, true, false, List, [], ◌∷◌, ◌++◌, refl, sym, ◌∙◌, ap, subst, append_assoc}
 use Rattle.mm_base.specs.Outside.{RoseBy}
-use Rattle.mm_base.specs.Recorder.{Log, heard_with, IsPart, HasHeard, HasFailed, SplitInOrder, none_left, one_stays, one_lost, CallsEach, Split, no_one, stays_live, gets_lost, HaveHeard}
+use Rattle.mm_base.specs.Recorder.{Log, heard_with, IsPart, HasHeard, HasFailed, SplitInOrder, none_left, one_stays, one_lost, CallsEach, Split, no_one, stays_live, gets_lost, CallsMany, HaveHeard, heard_where}
 use Rattle.mm_base.proofs.SinkLemmas.{append_nil}
+use Rattle.mm_base.proofs.RecorderLemmas.{part_same, part_heard}
 
 -- ## Parts of logs
 
@@ -66,34 +67,74 @@ module _ {R : Type 0} (tells : R → Bool) (logs : R → List Log) (faults : R �
 -- ## Of each recorder
 
 module _ {R : Type 0} (S1 L1 S2 L2 S L : R → R → Type 0) (both : (a b c : R) → S1 a b → S2 b c → S a c) (late : (a b c : R) → S1 a b → L2 b c → L a c) (early : (a b : R) → L1 a b → L a b) where
-  split_again : (old mid new gone more : List R) → Split S1 L1 old mid gone → SplitInOrder S2 L2 mid new more → Split S L old new (gone ++ more)
-  split_again old mid new gone more no_one none_left = no_one
-  split_again old mid new gone more (stays_live r now rs live lost k rest) (one_stays x y xs ys zs k' rest') = stays_live r y rs ys (lost ++ zs) (both r now y k k') (split_again rs live ys lost zs rest rest')
-  split_again old mid new gone more (stays_live r now rs live gone' k rest) (one_lost x y xs ys zs k' rest') = gets_lost r y rs ys gone' zs (late r now y k k') (split_again rs live ys gone' zs rest rest')
+  split_again : (old mid new gone more : List R) → Split S1 L1 old mid gone → Split S2 L2 mid new more → Split S L old new (gone ++ more)
+  split_again old mid new gone more no_one no_one = no_one
+  split_again old mid new gone more (stays_live r now rs live lost k rest) (stays_live x y xs ys zs k' rest') = stays_live r y rs ys (lost ++ zs) (both r now y k k') (split_again rs live ys lost zs rest rest')
+  split_again old mid new gone more (stays_live r now rs live gone' k rest) (gets_lost x y xs ys before after k' rest') =
+      subst (λ g. Split S L (r ∷ rs) ys g) (append_assoc gone' before (y ∷ after))
+      (gets_lost r y rs ys (gone' ++ before) after (late r now y k k') (subst (λ g. Split S L rs ys g) (sym (append_assoc gone' before after)) (split_again rs live ys gone' (before ++ after) rest rest')))
   split_again old mid new gone more (gets_lost r now rs live before after k rest) second =
       subst (λ g. Split S L (r ∷ rs) new g) (sym (append_assoc before (now ∷ after) more))
       (gets_lost r now rs new before (after ++ more) (early r now k) (subst (λ g. Split S L rs new g) (append_assoc before after more) (split_again rs mid new (before ++ after) more rest second)))
 
-none_heard : {R : Type 0} (tells : R → Bool) (logs : R → List Log) (faults : R → ℕ) (rs : List R) → Split (HasHeard tells logs faults (λ ls. ls ++ [])) (HasFailed tells logs faults (λ ls. ls ++ [])) rs rs []
-none_heard tells logs faults [] = no_one
-none_heard tells logs faults (r ∷ rs) = stays_live r r rs rs [] (record { told = λ t. t; whole = λ t. sym (append_nil (logs r)); stays = refl }) (none_heard tells logs faults rs)
+split_once : {R : Type 0} (S L : R → R → Type 0) (old new gone : List R) → SplitInOrder S L old new gone → Split S L old new gone
+split_once S L old new gone none_left = no_one
+split_once S L old new gone (one_stays r now rs live lost k rest) = stays_live r now rs live lost k (split_once S L rs live lost rest)
+split_once S L old new gone (one_lost r now rs live lost k rest) = gets_lost r now rs live [] lost k (split_once S L rs live lost rest)
+
+split_none : {R : Type 0} (tells : R → Bool) (logs : R → List Log) (faults : R → ℕ) (rs : List R) → Split (HasHeard tells logs faults (λ ls. ls)) (HasFailed tells logs faults (λ ls. ls)) rs rs []
+split_none tells logs faults [] = no_one
+split_none tells logs faults (r ∷ rs) = stays_live r r rs rs [] (record { told = λ t. t; whole = λ t. refl; stays = refl }) (split_none tells logs faults rs)
+
+-- ## Of all of them
 
 module _ {R : Type 0} (tells : R → Bool) (logs : R → List Log) (faults : R → ℕ) where
-  -- no call yet
-  pub have_heard_none : (live lost : List R) → HaveHeard tells logs faults [] live lost live lost
-  have_heard_none live lost = record { gone = []; lost_is = sym (append_nil lost); split = none_heard tells logs faults live }
+  -- no call
+  pub many_none : (live lost : List R) → CallsMany tells logs faults (λ ls. ls) live lost live lost
+  many_none live lost = record { gone = []; lost_is = sym (append_nil lost); split = split_none tells logs faults live }
 
-  -- a call after others
-  pub have_heard_more : (heard more : List Log) (after : List Log → List Log) (live lost live' lost' live'' lost'' : List R) → HaveHeard tells logs faults heard live lost live' lost' → CallsEach tells logs faults after live' lost' live'' lost''
+  -- one call
+  pub many_one : (after : List Log → List Log) (live lost live' lost' : List R) → CallsEach tells logs faults after live lost live' lost' → CallsMany tells logs faults after live lost live' lost'
+  many_one after live lost live' lost' h = record { gone = h.gone; lost_is = h.lost_is; split = split_once _ _ _ _ _ h.split }
+
+  -- some calls and then others
+  pub many_then : (f g h : List Log → List Log) (live lost live' lost' live'' lost'' : List R) → CallsMany tells logs faults f live lost live' lost' → CallsMany tells logs faults g live' lost' live'' lost''
+      → ((ls : List Log) → g (f ls) ≡ h ls) → ((ls : List Log) → IsPart ls (f ls)) → ((ls : List Log) → IsPart (f ls) (g (f ls))) → CallsMany tells logs faults h live lost live'' lost''
+  many_then f g h live lost live' lost' live'' lost'' first later same grows more = record {
+    gone = first.gone ++ later.gone;
+    lost_is = later.lost_is ∙ (ap (λ rs. rs ++ later.gone) first.lost_is ∙ append_assoc lost first.gone later.gone);
+    split = split_again _ _ _ _ _ _ (heard_then_heard tells logs faults f g h same) (heard_then_failed tells logs faults f g h same grows) (failed_before tells logs faults f g h same more)
+        live live' live'' first.gone later.gone first.split later.split;
+  }
+
+-- ## Pieces
+
+pub pieces_heard : (a b : List ℕ) (logs : List Log) → heard_with b (heard_with a logs) ≡ heard_with (a ++ b) logs
+pieces_heard a b [] = refl
+pieces_heard a b (log ∷ []) = ap (λ bs. record { name = log.name; bytes = bs } ∷ []) (append_assoc log.bytes a b)
+pieces_heard a b (log ∷ (next ∷ [])) = ap (λ ls. log ∷ ls) (pieces_heard a b (next ∷ []))
+pieces_heard a b (log ∷ (next ∷ (third ∷ logs))) = ap (λ ls. log ∷ ls) (pieces_heard a b (next ∷ (third ∷ logs)))
+
+pub where_grows : (open_log : Bool) (piece : List ℕ) (logs : List Log) → IsPart logs (heard_where open_log piece logs)
+where_grows true piece logs = part_heard piece logs
+where_grows false piece logs = part_same logs
+
+-- a piece after another, where a log is open or not
+pub where_heard : (open_log : Bool) (a b : List ℕ) (logs : List Log) → heard_where open_log b (heard_where open_log a logs) ≡ heard_where open_log (a ++ b) logs
+where_heard true a b logs = pieces_heard a b logs
+where_heard false a b logs = refl
+
+module _ {R : Type 0} (tells : R → Bool) (logs : R → List Log) (faults : R → ℕ) where
+  -- a piece after another, of all recorders
+  pub many_pieces : (open_log : Bool) (a b : List ℕ) (live lost live' lost' live'' lost'' : List R) → CallsMany tells logs faults (heard_where open_log a) live lost live' lost' → CallsMany tells logs faults (heard_where open_log b) live' lost' live'' lost''
+      → CallsMany tells logs faults (heard_where open_log (a ++ b)) live lost live'' lost''
+  many_pieces open_log a b live lost live' lost' live'' lost'' first later =
+      many_then tells logs faults (heard_where open_log a) (heard_where open_log b) (heard_where open_log (a ++ b)) live lost live' lost' live'' lost'' first later
+      (where_heard open_log a b) (where_grows open_log a) (λ ls. where_grows open_log b (heard_where open_log a ls))
+
+  -- a call after these logs
+  pub have_heard_more : (heard more : List Log) (after : List Log → List Log) (live lost live' lost' live'' lost'' : List R) → HaveHeard tells logs faults heard live lost live' lost' → CallsMany tells logs faults after live' lost' live'' lost''
       → ((ls : List Log) → after (ls ++ heard) ≡ ls ++ more) → IsPart heard more → HaveHeard tells logs faults more live lost live'' lost''
   have_heard_more heard more after live lost live' lost' live'' lost'' first later same part =
-      let grows : (ls : List Log) → IsPart (ls ++ heard) (after (ls ++ heard)) = λ ls. subst (IsPart (ls ++ heard)) (sym (same ls)) (part_of_behind ls heard more part) in
-      record {
-        gone = first.gone ++ later.gone;
-        lost_is = later.lost_is ∙ (ap (λ rs. rs ++ later.gone) first.lost_is ∙ append_assoc lost first.gone later.gone);
-        split = split_again _ _ _ _ _ _
-            (heard_then_heard tells logs faults (λ ls. ls ++ heard) after (λ ls. ls ++ more) same)
-            (heard_then_failed tells logs faults (λ ls. ls ++ heard) after (λ ls. ls ++ more) same (λ ls. part_behind ls heard))
-            (failed_before tells logs faults (λ ls. ls ++ heard) after (λ ls. ls ++ more) same grows)
-            live live' live'' first.gone later.gone first.split later.split;
-      }
+      many_then tells logs faults (λ ls. ls ++ heard) after (λ ls. ls ++ more) live lost live' lost' live'' lost'' first later same (λ ls. part_behind ls heard)
+      (λ ls. subst (IsPart (ls ++ heard)) (sym (same ls)) (part_of_behind ls heard more part))

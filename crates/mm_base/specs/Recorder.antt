@@ -100,8 +100,12 @@ pub data Split {R : Type 0} (Stays Lost : R → R → Type 0) : List R → List 
   stays_live : (r now : R) (rs live lost : List R) → Stays r now → Split Stays Lost rs live lost → Split Stays Lost (r ∷ rs) (now ∷ live) lost
   gets_lost : (r now : R) (rs live before after : List R) → Lost r now → Split Stays Lost rs live (before ++ after) → Split Stays Lost (r ∷ rs) live (before ++ now ∷ after)
 
--- Calls one after another: each recorder has heard these logs more and is live, or it has failed and is lost, with a part of them.
-pub record HaveHeard {R : Type 0} (tells : R → Bool) (logs : R → List Log) (faults : R → ℕ) (more : List Log) (live lost live' lost' : List R) : Type 0 where
+-- Calls one after another: each recorder has heard all and is live, or it has failed and is lost, with a part.
+pub record CallsMany {R : Type 0} (tells : R → Bool) (logs : R → List Log) (faults : R → ℕ) (after : List Log → List Log) (live lost live' lost' : List R) : Type 0 where
   pub gone : List R
   pub lost_is : lost' ≡ lost ++ gone
-  pub split : Split (HasHeard tells logs faults (λ ls. ls ++ more)) (HasFailed tells logs faults (λ ls. ls ++ more)) live live' gone
+  pub split : Split (HasHeard tells logs faults after) (HasFailed tells logs faults after) live live' gone
+
+-- Each has heard these logs more, or has failed.
+abbrev pub HaveHeard : {R : Type 0} (tells : R → Bool) (logs : R → List Log) (faults : R → ℕ) (more : List Log) (live lost live' lost' : List R) → Type 0
+HaveHeard tells logs faults more live lost live' lost' = CallsMany tells logs faults (λ ls. ls ++ more) live lost live' lost'
