@@ -10,10 +10,10 @@ ghost use Rattle.mm_database_commands.specs.Commands.{PutsUnderName, action_of, 
 ghost use Rattle.mm_step.specs.Effects.{Meets, effect_by, is_faulted};
 ghost use Rattle.mm_step.specs.Ran.{Performs, reply_in, state_in};
 
-use crate::reply::{Reply, refuse, tell};
+use crate::reply::{Reply, refuse, tell, text_told};
 use mm_base::{Fetched, Files, FilesFault};
 use mm_database_commands::{Call, MOST_FETCHED, load};
-use mm_shell::{Change, DatabaseRef, Report, Text, Word, report_text};
+use mm_shell::{Change, DatabaseRef, Report, Text, Word};
 use std::alloc::Global;
 
 /// Makes the call of a command, if it makes one.
@@ -76,7 +76,7 @@ fn put<F: Files>(
     ensures cause { CountsFaults (is_faulted (reply_in result)) (F.faults files.old) (F.faults files.new) }
 {
     // The text is made first: where there is no memory for it, no file is reached.
-    match report_text(alloc, &report) {
+    match text_told(alloc, report) {
         Err(_) => Err(Reply::Starved),
         Ok(text) => put_told(alloc, files, name, database, text),
     }

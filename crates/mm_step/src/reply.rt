@@ -1,9 +1,12 @@
-ghost use Rattle.std.specs.Prelude.{◌≡◌, ◌≢◌};
+ghost use Rattle.std.specs.Prelude.{◌≡◌, ◌≢◌, IfOk, false, is_ok, true};
+ghost use Rattle.mm_shell.specs.Answers.{report_takes};
+ghost use Rattle.mm_shell.specs.Texts.{report_text};
 ghost use Rattle.mm_shell.specs.declared.refusal.Refusal.TheVariants.{OutOfMemory};
 ghost use Rattle.mm_step.specs.Effects.{text_of};
 ghost use Rattle.mm_step.specs.Ran.{Refuses, Tells};
 
-use mm_shell::{Change, Done, Refusal, Text, refusal_text, report_text};
+use mm_base::Memory;
+use mm_shell::{Change, Done, Refusal, Report, Text, refusal_text, report_text};
 use std::alloc::Global;
 
 /// What has become of a line.
@@ -58,8 +61,18 @@ fn tell_refusal(alloc: Global, refusal: &Refusal<'_>) -> Reply
 pub fn tell(alloc: Global, done: Done<'_>) -> Result<(Text, Change), Reply>
     ensures { Tells (Ok done.entry) result }
 {
-    match report_text(alloc, &done.report) {
+    let Done { report, change } = done;
+    match text_told(alloc, report) {
         Err(_) => Err(Reply::Starved),
-        Ok(text) => Ok((text, done.change)),
+        Ok(text) => Ok((text, change)),
     }
+}
+
+/// The text of a report.
+// The report is dropped here, as that costs much to prove where more is done.
+pub fn text_told(alloc: Global, report: Report<'_>) -> Result<Text, Memory>
+    ensures is { IfOk result (λ text. text ≡ report_text report.entry) }
+    ensures free { report_takes report.entry ≡ false → is_ok result ≡ true }
+{
+    report_text(alloc, &report)
 }
