@@ -62,7 +62,6 @@ pub fn unifiers(
     rule: Rule,
     trials: Option<u32>,
 ) -> Result<Listing, Memory>
-    requires some { IfSome trials (λ n. 1 ≤ n) }
     requires finite { IfNone trials ((has_work a.now ≡ false) ⊎ (has_work b.now ≡ false)) }
     ensures found { IfOk result (λ t. t.found.items ≡ (answer (forbidden db.now rule) trials a.now b.now).found) }
     ensures ended { IfOk result (λ t. t.ended ≡ (answer (forbidden db.now rule) trials a.now b.now).ended) }
