@@ -1,23 +1,23 @@
 -- Pattern and target along each other.
-use Rattle.std.proofs.Common.{ℕ, zero, suc, ◌+◌, ◌-◌, ◌≡◌, ◌≢◌, ◌<◌, ◌≤◌, List, [], ◌∷◌, ◌++◌, Bool, true, false, cond, ◌||◌, if◌then◌else◌, map, take, drop, get_or, length, reverse, Option, Some, None, refl, sym, ap, ◌∙◌, subst, inl, inr, ◌⊎◌, arith, append_assoc, length-append, length-take, length-drop, drop-cons, add-one}
-use Rattle.std.specs.List.{AllByRecursion, list_any}
-use Rattle.std.proofs.lemmas.List.{append-nil, take_all, drop_all, take-append-drop}
+use Rattle.std.proofs.Common.{ℕ, ◌+◌, ◌≡◌, ◌<◌, ◌≤◌, List, [], ◌∷◌, ◌++◌, Bool, true, false, cond, ◌||◌, if◌then◌else◌, map, take, drop, get_or, length, Some, refl, sym, ap, ◌∙◌, subst, arith, append_assoc, length-drop, drop-cons, add-one}
+use Rattle.std.specs.List.{list_any}
+use Rattle.std.proofs.lemmas.List.{append-nil, drop_all, take-append-drop}
 use Rattle.std.proofs.Math.Seq.{take-append_seam, take-add}
 use Rattle.mm_subst.specs.declared.symbol.WSym.{WSym}
 use Rattle.mm_subst.specs.declared.symbol.WSym.TheVariants.{Const, Var, Work}
 use Rattle.mm_subst.specs.Symbols.{is_same, is_work}
-use Rattle.mm_subst.specs.Substitutions.{Pairs, value_at, or_itself, value_of, applied}
+use Rattle.mm_subst.specs.Substitutions.{Pairs, value_at, value_of, applied}
 use Rattle.mm_subst.proofs.Replaced.{applied-append, applied-cons, applied_more}
 use Rattle.mm_unify.specs.declared.bound.Bound.{Bound}
 use Rattle.mm_unify.specs.Forbidden.{Forbidden}
 use Rattle.mm_unify.specs.Unifying.{restricted}
 use Rattle.mm_unify.specs.Variables.{numbers}
-use Rattle.mm_unify.specs.Search.{Node, Visit, dead_end, cut, falls_short, steps, child, visit, visit_cut}
+use Rattle.mm_unify.specs.Search.{dead_end, cut, falls_short, steps, child, visit, visit_cut}
 use Rattle.mm_unify.specs.Parts.{IsPlain, part, parts_of, IsStuck, IsThrough}
 use Rattle.mm_unify.specs.Frames.{node_of}
 use Rattle.mm_unify.proofs.Mapping.{is_same-false, value_later}
 use Rattle.mm_unify.proofs.Cut.{cut_front, HeadsDiffer, cut-HeadsDiffer}
-use Rattle.mm_unify.proofs.Balanced.{plain_left, plain_right}
+use Rattle.mm_unify.proofs.Balanced.{plain_right}
 use Rattle.mm_unify.proofs.Alone.{cut-same}
 use Rattle.mm_unify.proofs.Along.{plain_drop, plain_part, visit_further}
 

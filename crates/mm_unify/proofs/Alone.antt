@@ -1,21 +1,19 @@
 -- A work variable alone against a string: its value is found symbol by symbol.
-use Rattle.std.proofs.Common.{ℕ, zero, suc, ◌+◌, ◌*◌, ◌-◌, ◌≡◌, ◌≢◌, ◌<◌, ◌≤◌, List, [], ◌∷◌, ◌++◌, Bool, true, false, cond, ◌||◌, map, length, refl, sym, ap, ◌∙◌, subst, inl, inr, ◌⊎◌, Option, arith, append_assoc, length-append}
+use Rattle.std.proofs.Common.{ℕ, zero, suc, ◌+◌, ◌*◌, ◌≡◌, ◌<◌, ◌≤◌, List, [], ◌∷◌, ◌++◌, true, false, cond, ◌||◌, map, length, refl, sym, ap, ◌∙◌, arith, append_assoc, length-append}
 use Rattle.std.specs.Prelude.{nat_lt}
-use Rattle.std.specs.List.{AllByRecursion, list_any}
+use Rattle.std.specs.List.{list_any}
 use Rattle.std.proofs.lemmas.Bool.{or_from}
 use Rattle.std.proofs.lemmas.List.{append-nil}
 use Rattle.mm_subst.specs.declared.symbol.WSym.{WSym}
-use Rattle.mm_subst.specs.declared.symbol.WSym.TheVariants.{Work}
-use Rattle.mm_subst.specs.declared.brackets.Brackets.{Brackets}
 use Rattle.mm_subst.specs.Applied.{most_symbols}
-use Rattle.mm_subst.specs.Symbols.{is_same, is_work, has_work}
-use Rattle.mm_subst.specs.Substitutions.{Pairs, value_of, applied, with_values}
+use Rattle.mm_subst.specs.Symbols.{is_same, is_work}
+use Rattle.mm_subst.specs.Substitutions.{Pairs, applied}
 use Rattle.mm_subst.proofs.Keys.{is_same-itself}
-use Rattle.mm_subst.proofs.Replaced.{applied-one, applied-append, applied-nil, applied-cons}
+use Rattle.mm_subst.proofs.Replaced.{applied-one, applied-append}
 use Rattle.mm_unify.specs.declared.listing.Ended.TheVariants.{Whole}
 use Rattle.mm_unify.specs.Forbidden.{Forbidden}
-use Rattle.mm_unify.specs.Search.{Node, Visit, Answer, dead_end, cut, falls_short, child, steps, visit, visit_cut, explore, is_too_long, unless_long, stop, after}
-use Rattle.mm_unify.proofs.Mapping.{is_same-false, value_first, value_later}
+use Rattle.mm_unify.specs.Search.{Node, Visit, dead_end, cut, falls_short, child, steps, visit, visit_cut, explore, is_too_long, unless_long, after}
+use Rattle.mm_unify.proofs.Mapping.{is_same-false, value_first}
 use Rattle.mm_unify.proofs.Opened.{IsFair}
 use Rattle.mm_unify.proofs.Explored.{alive_lengths}
 use Rattle.mm_unify.proofs.Balanced.{Plain, plain_apply, step_plain}

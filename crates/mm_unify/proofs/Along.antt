@@ -1,23 +1,23 @@
 -- A substitution of parts of a string without work variables, with one value more.
-use Rattle.std.proofs.Common.{ℕ, zero, suc, ◌+◌, ◌-◌, ◌≡◌, ◌≢◌, ◌<◌, ◌≤◌, List, [], ◌∷◌, ◌++◌, Bool, true, false, cond, if◌then◌else◌, not, map, take, drop, length, Option, Some, None, refl, sym, ap, ◌∙◌, subst, inl, inr, ◌⊎◌, arith, append_assoc, length-append, length-take, length-drop, drop-drop}
+use Rattle.std.proofs.Common.{ℕ, ◌+◌, ◌-◌, ◌≡◌, ◌≤◌, List, [], ◌∷◌, ◌++◌, Bool, true, false, if◌then◌else◌, take, drop, length, Some, None, refl, sym, ap, ◌∙◌, subst, inl, inr, ◌⊎◌, arith, append_assoc, length-take, drop-drop}
 use Rattle.std.specs.List.{AllByRecursion}
-use Rattle.std.proofs.lemmas.List.{append-nil, drop-append-le, take-append-drop, take_all, drop_all}
+use Rattle.std.proofs.lemmas.List.{drop-append-le, take-append-drop}
 use Rattle.std.proofs.Math.Seq.{drop-append_seam, take-add}
 use Rattle.mm_subst.specs.declared.symbol.WSym.{WSym}
 use Rattle.mm_subst.specs.declared.symbol.WSym.TheVariants.{Work}
-use Rattle.mm_subst.specs.Symbols.{is_same, is_work}
+use Rattle.mm_subst.specs.Symbols.{is_same}
 use Rattle.mm_subst.specs.Substitutions.{Pairs, value_at, or_itself, value_of, applied, with_values}
-use Rattle.mm_subst.proofs.Keys.{is_same-true, is_same-itself, is_same-comm}
+use Rattle.mm_subst.proofs.Keys.{is_same-itself}
 use Rattle.mm_subst.proofs.Replaced.{applied-append, applied-one, applied-cons}
 use Rattle.mm_unify.specs.declared.bound.Bound.{Bound}
 use Rattle.mm_unify.specs.declared.advance.Open.{Open}
 use Rattle.mm_unify.specs.Unifying.{restricted}
 use Rattle.mm_unify.specs.Forbidden.{Forbidden}
-use Rattle.mm_unify.specs.Search.{Node, Visit, cut, visit, visit_cut}
+use Rattle.mm_unify.specs.Search.{cut, visit, visit_cut}
 use Rattle.mm_unify.specs.Parts.{IsPlain, part, parts_of, Opens}
 use Rattle.mm_unify.specs.Frames.{node_of, with_value, open_value}
 use Rattle.mm_unify.specs.Variables.{numbers}
-use Rattle.mm_unify.proofs.Mapping.{cases_same, is_same-false, value_first, value_later, applied_everywhere, applied-applied}
+use Rattle.mm_unify.proofs.Mapping.{cases_same, value_first, value_later, applied_everywhere}
 use Rattle.mm_unify.proofs.Alone.{cut-same}
 use Rattle.mm_unify.proofs.Balanced.{plain_left, plain_right, plain_apply, step_plain}
 

@@ -1,32 +1,28 @@
 -- With brackets and one side free of work variables, a balanced unifying substitution is listed.
-use Rattle.std.proofs.Common.{ℕ, zero, suc, ◌+◌, ◌≡◌, ◌≢◌, ◌<◌, ◌≤◌, List, [], ◌∷◌, ◌++◌, Bool, true, false, cond, ◌||◌, eqb, ltb, map, length, get_or, refl, sym, ap, ◌∙◌, subst, inl, inr, ◌⊎◌, arith, rules, length-append, append_assoc}
-use Rattle.std.specs.List.{All, AllByRecursion, list_any}
-use Rattle.std.proofs.lemmas.List.{append-nil}
-use Rattle.std.proofs.lemmas.Bool.{cond_both, cond-false, cond-true, or_from}
+use Rattle.std.proofs.Common.{ℕ, zero, suc, ◌≡◌, List, [], ◌∷◌, ◌++◌, Bool, true, false, cond, ◌||◌, eqb, ltb, map, length, refl, sym, ap, ◌∙◌, subst, inl, inr, ◌⊎◌, arith, append_assoc}
+use Rattle.std.specs.List.{AllByRecursion, list_any}
+use Rattle.std.proofs.lemmas.Bool.{cond_both, or_from}
 use Rattle.mm_subst.specs.declared.symbol.WSym.{WSym}
 use Rattle.mm_subst.specs.declared.symbol.WSym.TheVariants.{Const, Var, Work}
 use Rattle.mm_subst.specs.Symbols.{is_same, is_work}
 use Rattle.mm_subst.specs.Substitutions.{Pairs, value_of, applied, with_values}
-use Rattle.mm_unify.specs.Unifying.{IsProper, Unifies}
-use Rattle.mm_unify.specs.Search.{Node, Visit, Answer, dead_end, cut, falls_short, child, steps, visit, visit_cut, explore, is_too_long, unless_long, stop, after, root, selves}
+use Rattle.mm_unify.specs.Unifying.{Unifies}
+use Rattle.mm_unify.specs.Search.{Node, Answer, cut, falls_short, child, steps, visit, visit_cut, explore, is_too_long, unless_long, root, selves}
 use Rattle.mm_unify.specs.Forbidden.{Forbidden}
 use Rattle.mm_unify.specs.Variables.{numbers, with_number}
-use Rattle.mm_unify.specs.declared.listing.Ended.{Ended}
-use Rattle.mm_unify.specs.declared.listing.Ended.TheVariants.{Whole, Trials, Length}
-use Rattle.mm_subst.proofs.Keys.{is_same-true, is_same-itself}
-use Rattle.mm_subst.proofs.Replaced.{applied-append, applied-empty, applied-one}
-use Rattle.mm_unify.proofs.Mapping.{is_same-false, value_cases, value_first, value_later}
+use Rattle.mm_unify.specs.declared.listing.Ended.TheVariants.{Whole}
+use Rattle.mm_subst.proofs.Replaced.{applied-append, applied-one}
+use Rattle.mm_unify.proofs.Mapping.{is_same-false, value_first, value_later}
 use Rattle.mm_unify.proofs.Proper.{Good, value_plain, full_after}
-use Rattle.mm_unify.proofs.Lengths.{shorter}
 use Rattle.mm_unify.proofs.Opened.{IsFair}
 use Rattle.mm_unify.proofs.Cut.{cut_front, HeadsDiffer, cut-HeadsDiffer}
-use Rattle.mm_unify.proofs.Lists.{NoneOf, OneOf, AllByRecursion-append}
+use Rattle.mm_unify.proofs.Lists.{OneOf, AllByRecursion-append}
 use Rattle.mm_unify.proofs.Cover.{Agrees, Covers, Determined}
 use Rattle.mm_unify.proofs.Choice.{one_child, determined_children}
 use Rattle.mm_unify.proofs.Explored.{without, determined_rest, alive_lengths}
 use Rattle.mm_unify.proofs.Root.{Has, determined_root, covers_root}
-use Rattle.mm_unify.proofs.Sound.{keys, Faithful, Solves, faithful_child, faithful_without, faithful_root, work_steps, solved}
-use Rattle.mm_unify.proofs.Once.{Rising, rising_numbers, at_numbers, at_pairs}
+use Rattle.mm_unify.proofs.Sound.{keys, Faithful, Solves, faithful_child, faithful_without, faithful_root, solved}
+use Rattle.mm_unify.proofs.Once.{rising_numbers, at_numbers, at_pairs}
 
 abbrev pub Plain : List WSym → Type 0
 Plain s = AllByRecursion (λ c. is_work c ≡ false) s

@@ -1,14 +1,13 @@
 -- Exactly one child of a node covers what the node covers.
-use Rattle.std.proofs.Common.{ℕ, zero, suc, ◌+◌, ◌≡◌, ◌≢◌, ◌<◌, ◌≤◌, List, [], ◌∷◌, ◌++◌, Bool, true, false, cond, map, length, refl, sym, ap, ◌∙◌, subst, inl, inr, ◌⊎◌, arith, rules, length-append, append_assoc}
+use Rattle.std.proofs.Common.{◌≡◌, ◌<◌, List, [], ◌∷◌, true, false, cond, length, sym, ap, ◌∙◌, inl, inr, arith}
 use Rattle.std.specs.List.{AllByRecursion}
-use Rattle.std.proofs.lemmas.Bool.{cond_both, cases_order, cases_Bool}
+use Rattle.std.proofs.lemmas.Bool.{cond_both, cases_order}
 use Rattle.mm_subst.specs.declared.symbol.WSym.{WSym}
 use Rattle.mm_subst.specs.Symbols.{is_same, is_work}
 use Rattle.mm_subst.specs.Substitutions.{Pairs, value_of, applied}
-use Rattle.mm_unify.specs.Search.{Node, child, steps}
-use Rattle.mm_subst.proofs.Keys.{is_same-true, is_same-itself, is_same-comm}
-use Rattle.mm_unify.proofs.Mapping.{is_same-false, cases_same, behind, value_cases, value_first, value_later}
-use Rattle.mm_unify.proofs.Proper.{Good, value_plain, value_full}
+use Rattle.mm_unify.specs.Search.{child, steps}
+use Rattle.mm_subst.proofs.Keys.{is_same-itself, is_same-comm}
+use Rattle.mm_unify.proofs.Proper.{value_plain, value_full}
 use Rattle.mm_unify.proofs.Lists.{NoneOf, OneOf, longer_front, same_front}
 use Rattle.mm_unify.proofs.Cover.{Covers, Determined, covers_back, covers_forth, through_whole, through_longer, alike_heads, whole_tells, longer_tells, determined_child, own_whole, own_longer}
 

@@ -1,18 +1,16 @@
 -- What a node covers: the substitutions that go through its values and make what is left equal.
-use Rattle.std.proofs.Common.{ℕ, zero, suc, ◌+◌, ◌≡◌, ◌≢◌, ◌<◌, ◌≤◌, List, [], ◌∷◌, ◌++◌, Bool, true, false, cond, map, length, refl, sym, ap, ◌∙◌, subst, inl, inr, ◌⊎◌, arith, rules, length-append, append_assoc}
+use Rattle.std.proofs.Common.{◌≡◌, ◌<◌, List, [], ◌∷◌, ◌++◌, true, false, length, refl, sym, ap, ◌∙◌, arith, length-append}
 use Rattle.std.specs.List.{AllByRecursion}
 use Rattle.std.proofs.lemmas.List.{append-nil, append_cancel_left}
-use Rattle.std.proofs.lemmas.Bool.{cond_both, cond-true, cond-false, cases_order}
 use Rattle.mm_subst.specs.declared.symbol.WSym.{WSym}
-use Rattle.mm_subst.specs.declared.symbol.WSym.TheVariants.{Const, Var, Work}
 use Rattle.mm_subst.specs.Symbols.{is_same, is_work}
 use Rattle.mm_subst.specs.Substitutions.{Pairs, value_of, applied, with_values}
-use Rattle.mm_unify.specs.Search.{Node, child, steps}
+use Rattle.mm_unify.specs.Search.{Node, child}
 use Rattle.mm_subst.proofs.Keys.{is_same-true, is_same-itself}
-use Rattle.mm_subst.proofs.Replaced.{applied-append, applied-one}
-use Rattle.mm_unify.proofs.Mapping.{is_same-false, cases_same, behind, value-behind, applied-behind, applied_everywhere, value_cases, value_first, value_later}
-use Rattle.mm_unify.proofs.Proper.{Good, good_behind, value_plain, value_full, full_after}
-use Rattle.mm_unify.proofs.Lists.{NoneOf, OneOf, longer_front, same_front, AllByRecursion-append}
+use Rattle.mm_subst.proofs.Replaced.{applied-one}
+use Rattle.mm_unify.proofs.Mapping.{behind, applied-behind, applied_everywhere, value_cases, value_first, value_later}
+use Rattle.mm_unify.proofs.Proper.{Good, good_behind, full_after}
+use Rattle.mm_unify.proofs.Lists.{AllByRecursion-append}
 
 -- theta is phi after the values
 abbrev pub Agrees : Pairs → Pairs → Pairs → Type 0

@@ -1,12 +1,10 @@
 -- Taking off equal heads.
-use Rattle.std.proofs.Common.{ℕ, zero, suc, ◌+◌, ◌≡◌, ◌≢◌, ◌<◌, ◌≤◌, List, [], ◌∷◌, ◌++◌, Bool, true, false, cond, map, length, refl, sym, ap, ◌∙◌, subst, inl, inr, ◌⊎◌, arith, rules, length-append}
+use Rattle.std.proofs.Common.{◌≡◌, List, [], ◌∷◌, ◌++◌, false, refl, ap}
 use Rattle.std.proofs.lemmas.Bool.{cond_both}
 use Rattle.mm_subst.specs.declared.symbol.WSym.{WSym}
-use Rattle.mm_subst.specs.Symbols.{is_same, is_work}
-use Rattle.mm_subst.specs.Substitutions.{Pairs, value_of, applied}
+use Rattle.mm_subst.specs.Symbols.{is_same}
 use Rattle.mm_unify.specs.Search.{cut}
-use Rattle.mm_subst.proofs.Keys.{is_same-true, is_same-itself}
-use Rattle.mm_unify.proofs.Mapping.{value_cases, value_first, value_later}
+use Rattle.mm_subst.proofs.Keys.{is_same-true}
 
 -- the strings are the equal heads, and then what is left
 pub cut_front : (l r : List WSym) → (q : List WSym) × (l ≡ q ++ (cut l r).0) × (r ≡ q ++ (cut l r).1)

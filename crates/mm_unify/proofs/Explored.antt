@@ -1,23 +1,20 @@
 -- The whole search: with no brackets, what the waiting nodes cover is listed exactly once.
-use Rattle.std.proofs.Common.{ℕ, zero, suc, ◌+◌, ◌≡◌, ◌≢◌, ◌<◌, ◌≤◌, List, [], ◌∷◌, ◌++◌, Bool, true, false, cond, ◌||◌, map, length, refl, sym, ap, ◌∙◌, subst, inl, inr, ◌⊎◌, arith, rules, length-append, append_assoc}
+use Rattle.std.proofs.Common.{ℕ, zero, suc, ◌≡◌, List, [], ◌∷◌, ◌++◌, Bool, true, false, ◌||◌, map, length, refl, sym, ap, ◌∙◌, subst, inl, inr, ◌⊎◌, arith}
 use Rattle.std.specs.List.{AllByRecursion, list_any}
-use Rattle.std.proofs.lemmas.List.{append-nil, append_cancel_left}
-use Rattle.std.proofs.lemmas.Bool.{cond_both, cases_order, cases_Bool, or_cases, or_from}
+use Rattle.std.proofs.lemmas.List.{append_cancel_left}
+use Rattle.std.proofs.lemmas.Bool.{cond_both, or_from}
 use Rattle.mm_subst.specs.declared.symbol.WSym.{WSym}
-use Rattle.mm_subst.specs.Symbols.{is_same, is_work}
-use Rattle.mm_subst.specs.Substitutions.{Pairs, value_of, applied}
-use Rattle.mm_unify.specs.Search.{Node, Visit, Answer, dead_end, cut, falls_short, child, steps, visit, visit_cut, explore, is_too_long, unless_long, stop, after}
+use Rattle.mm_subst.specs.Substitutions.{Pairs, applied}
+use Rattle.mm_unify.specs.Search.{Node, Visit, Answer, dead_end, cut, falls_short, child, steps, visit, visit_cut, explore, is_too_long, unless_long}
 use Rattle.mm_unify.specs.Forbidden.{Forbidden}
-use Rattle.mm_unify.specs.declared.listing.Ended.{Ended}
-use Rattle.mm_unify.specs.declared.listing.Ended.TheVariants.{Whole, Trials, Length}
-use Rattle.mm_subst.proofs.Replaced.{applied-append, applied-empty}
-use Rattle.mm_unify.proofs.Mapping.{value_cases, value_first, value_later}
+use Rattle.mm_unify.specs.declared.listing.Ended.TheVariants.{Whole}
+use Rattle.mm_subst.proofs.Replaced.{applied-append}
 use Rattle.mm_unify.proofs.Proper.{Good, full_after}
 use Rattle.mm_unify.proofs.Lengths.{shorter}
 use Rattle.mm_unify.proofs.Opened.{IsOff}
 use Rattle.mm_unify.proofs.Cut.{cut_front, HeadsDiffer, cut-HeadsDiffer}
 use Rattle.mm_unify.proofs.Lists.{NoneOf, OneOf, NoneOf-append, OneOf-append_left, OneOf-append_right, AllByRecursion-append, list_any_none}
-use Rattle.mm_unify.proofs.Cover.{Agrees, Covers, Alike, AlikeOn, Determined}
+use Rattle.mm_unify.proofs.Cover.{Agrees, Covers, Alike, Determined}
 use Rattle.mm_unify.proofs.Choice.{one_child, no_child, determined_children}
 
 -- theta goes through the listed values

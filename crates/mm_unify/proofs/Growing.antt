@@ -1,7 +1,7 @@
 -- A visit where a variable is open: the two nodes in which its value is longer by a symbol, or none.
-use Rattle.std.proofs.Common.{ℕ, zero, suc, ◌+◌, ◌-◌, ◌≡◌, ◌≢◌, ◌<◌, ◌≤◌, List, [], ◌∷◌, ◌++◌, Bool, true, false, cond, ◌||◌, ◌&&◌, if◌then◌else◌, not, map, take, drop, length, reverse, Option, Some, None, refl, sym, ap, ◌∙◌, subst, inl, inr, ◌⊎◌, arith, append_assoc, length-append, length-take, length-drop}
-use Rattle.std.specs.Prelude.{nat_le, nat_lt, count_by}
-use Rattle.std.specs.List.{AllByRecursion, list_any, list_all}
+use Rattle.std.proofs.Common.{ℕ, ◌+◌, ◌-◌, ◌≡◌, ◌<◌, ◌≤◌, List, [], ◌∷◌, ◌++◌, Bool, true, false, cond, ◌||◌, ◌&&◌, not, map, take, drop, length, reverse, None, refl, sym, ap, ◌∙◌, subst, inl, inr, ◌⊎◌, arith, append_assoc, length-append, length-take, length-drop}
+use Rattle.std.specs.Prelude.{nat_le, nat_lt}
+use Rattle.std.specs.List.{list_any, list_all}
 use Rattle.std.proofs.lemmas.List.{append-nil, drop_all}
 use Rattle.std.proofs.lemmas.List.Sums.{sum_by-append, sum_by-cons}
 use Rattle.std.proofs.lemmas.Bool.{cases_lt, or_parts, or_from}
@@ -9,9 +9,9 @@ use Rattle.mm_subst.specs.declared.symbol.WSym.{WSym}
 use Rattle.mm_subst.specs.declared.symbol.WSym.TheVariants.{Work}
 use Rattle.mm_subst.specs.Symbols.{is_same, is_work}
 use Rattle.mm_subst.specs.Applied.{most_symbols}
-use Rattle.mm_subst.specs.Substitutions.{Pairs, value_at, or_itself, value_of, applied, with_values}
+use Rattle.mm_subst.specs.Substitutions.{Pairs, value_at, value_of, applied, with_values}
 use Rattle.mm_subst.proofs.Keys.{is_same-itself}
-use Rattle.mm_subst.proofs.Replaced.{applied-append, applied-cons}
+use Rattle.mm_subst.proofs.Replaced.{applied-append}
 use Rattle.mm_unify.specs.declared.bound.Bound.{Bound}
 use Rattle.mm_unify.specs.declared.advance.Open.{Open}
 use Rattle.mm_unify.specs.declared.frame.Frame.{Frame}
@@ -20,15 +20,15 @@ use Rattle.mm_unify.specs.declared.frame.Kind.TheVariants.{First, Whole, Longer}
 use Rattle.mm_unify.specs.Unifying.{restricted}
 use Rattle.mm_unify.specs.Variables.{numbers}
 use Rattle.mm_unify.specs.Forbidden.{Forbidden}
-use Rattle.mm_unify.specs.Search.{Node, Visit, dead_end, cut, count, plain_count, falls_short, steps, child, visit, visit_cut}
-use Rattle.mm_unify.specs.Parts.{IsPlain, part, parts_of, AreWithin, Opens}
-use Rattle.mm_unify.specs.Frames.{node_of, with_value, open_value, node_at, some_early, some_long, theta_by, length_by, StepFits, Fits, MayGrow, Adds}
+use Rattle.mm_unify.specs.Search.{Node, dead_end, cut, count, plain_count, falls_short, steps, child, visit, visit_cut}
+use Rattle.mm_unify.specs.Parts.{IsPlain, part, parts_of, Opens}
+use Rattle.mm_unify.specs.Frames.{node_of, with_value, open_value, some_early, some_long, theta_by, length_by, StepFits, Fits, MayGrow, Adds}
 use Rattle.mm_unify.proofs.Mapping.{is_same-false, cases_same, applied-applied}
 use Rattle.mm_unify.proofs.Opened.{IsFair}
 use Rattle.mm_unify.proofs.Lengths.{count-cons}
 use Rattle.mm_unify.proofs.Balanced.{plain_apply, step_plain}
 use Rattle.mm_unify.proofs.Root.{Has, numbered, numbered_left, numbered_right, Numbered}
-use Rattle.mm_unify.proofs.Along.{last_own, last_other, step_value, restricted_step, visit_further, drop_front, open_rest, plain_take, plain_drop, plain_part, front_part, more_part}
+use Rattle.mm_unify.proofs.Along.{last_own, last_other, step_value, restricted_step, visit_further, drop_front, open_rest, plain_take, plain_drop, plain_part, more_part}
 
 -- counts in strings without work variables
 count_plain : (n : ℕ) (s : List WSym) → IsPlain s → count (Work n) s ≡ 0

@@ -1,18 +1,16 @@
 -- The length rule: a short side that falls short stays shorter under every substitution of work variables.
-use Rattle.std.proofs.Common.{ℕ, zero, suc, ◌+◌, ◌≡◌, ◌≢◌, ◌<◌, ◌≤◌, List, [], ◌∷◌, ◌++◌, Bool, true, false, cond, not, ◌&&◌, ◌||◌, map, length, refl, sym, ap, ◌∙◌, subst, inl, inr, ◌⊎◌, arith, rules, length-append}
-use Rattle.std.specs.Prelude.{nat_le, nat_lt, count_by}
-use Rattle.std.specs.List.{flat_map, AllByRecursion, list_all}
+use Rattle.std.proofs.Common.{ℕ, ◌+◌, ◌≡◌, ◌<◌, ◌≤◌, List, [], ◌∷◌, Bool, true, false, cond, not, ◌||◌, length, refl, ap, ◌∙◌, inl, inr, arith, length-append}
+use Rattle.std.specs.Prelude.{nat_le, nat_lt}
+use Rattle.std.specs.List.{list_all}
 use Rattle.std.proofs.lemmas.List.Sums.{sum_by-cons}
 use Rattle.std.proofs.lemmas.Bool.{and_parts, or_cases, leb-true, ltb-true, cond_both, cases_lt, not-true, cond-true}
-use Rattle.std.proofs.lemmas.Bool.Decides.{nat_tests}
 use Rattle.mm_subst.specs.declared.symbol.WSym.{WSym}
-use Rattle.mm_subst.specs.declared.symbol.WSym.TheVariants.{Const, Var, Work}
 use Rattle.mm_subst.specs.Symbols.{is_same, is_work}
 use Rattle.mm_subst.specs.Substitutions.{Pairs, value_of, applied}
 use Rattle.mm_unify.specs.Search.{count, plain_count, falls_short}
 use Rattle.mm_subst.proofs.Keys.{is_same-true, is_same-itself}
-use Rattle.mm_unify.proofs.Mapping.{is_same-false, cases_same, value_cases, value_first, value_later}
-use Rattle.mm_unify.proofs.Proper.{Good, value_plain, value_full}
+use Rattle.mm_unify.proofs.Mapping.{cases_same}
+use Rattle.mm_unify.proofs.Proper.{Good, value_plain}
 
 -- a count of one or none
 abbrev one : Bool → ℕ

@@ -1,10 +1,9 @@
 -- The loop of the search: what is found so far, and the search over the nodes that wait, the last one first.
-use Rattle.std.proofs.Common.{ℕ, zero, suc, ◌+◌, ◌-◌, ◌≡◌, ◌≢◌, ◌<◌, ◌≤◌, List, [], ◌∷◌, ◌++◌, Bool, true, false, cond, map, length, reverse, refl, sym, ap, ◌∙◌, subst, arith, append_assoc}
+use Rattle.std.proofs.Common.{ℕ, zero, suc, ◌+◌, ◌-◌, ◌≡◌, ◌<◌, List, [], ◌∷◌, ◌++◌, Bool, true, false, length, reverse, refl, sym, ap, ◌∙◌, arith, append_assoc}
 use Rattle.std.proofs.lemmas.List.{append-nil, reverse-append, reverse-reverse, length-reverse}
-use Rattle.mm_unify.specs.declared.listing.Ended.{Ended}
 use Rattle.mm_unify.specs.declared.listing.Ended.TheVariants.{Whole, Trials, Length}
 use Rattle.mm_subst.specs.Substitutions.{Pairs}
-use Rattle.mm_unify.specs.Search.{Node, Answer, Visit, visit, explore, is_too_long, unless_long, stop, after}
+use Rattle.mm_unify.specs.Search.{Node, Answer, visit, explore, is_too_long, unless_long, stop, after}
 use Rattle.mm_unify.specs.Forbidden.{Forbidden}
 
 pub record Continues (rule : Forbidden) (whole : Answer) (found : List Pairs) (n : ℕ) (nodes : List Node) : Type 0 where

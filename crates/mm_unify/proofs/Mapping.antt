@@ -1,10 +1,9 @@
 -- Laws of the values of symbols, and of substitutions applied one after the other.
-use Rattle.std.proofs.Common.{◌≡◌, ◌≢◌, List, [], ◌∷◌, ◌++◌, Bool, true, false, if◌then◌else◌, Option, Some, refl, sym, ap, ◌∙◌, inl, inr, ◌⊎◌}
-use Rattle.std.specs.List.{AllByRecursion}
+use Rattle.std.proofs.Common.{◌≡◌, ◌≢◌, List, [], ◌∷◌, Bool, true, false, if◌then◌else◌, Some, refl, ap, ◌∙◌, inl, inr, ◌⊎◌}
 use Rattle.mm_subst.specs.declared.symbol.WSym.{WSym}
 use Rattle.mm_subst.specs.Symbols.{is_same}
 use Rattle.mm_subst.specs.Substitutions.{Pairs, value_at, or_itself, value_of, applied}
-use Rattle.mm_subst.proofs.Keys.{is_same-true, is_same-itself}
+use Rattle.mm_subst.proofs.Keys.{is_same-true}
 use Rattle.mm_subst.proofs.Replaced.{applied-append, applied-one}
 
 pub is_same-false : (x y : WSym) → x ≢ y → is_same x y ≡ false

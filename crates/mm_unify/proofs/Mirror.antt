@@ -1,7 +1,6 @@
 -- Where one side has no work variable it doesn't matter which is the left one.
 use Rattle.std.proofs.Common.{ℕ, zero, suc, ◌+◌, ◌≡◌, List, [], ◌∷◌, ◌++◌, Bool, true, false, cond, ◌||◌, map, refl, sym, ap, ◌∙◌, subst, inl, inr, ◌⊎◌}
 use Rattle.std.specs.List.{AllByRecursion, list_any}
-use Rattle.std.proofs.lemmas.Bool.{cond_both}
 use Rattle.mm_subst.specs.declared.symbol.WSym.{WSym}
 use Rattle.mm_subst.specs.declared.symbol.WSym.TheVariants.{Const, Var, Work}
 use Rattle.mm_subst.specs.Symbols.{is_same, is_work, has_work}
@@ -11,7 +10,7 @@ use Rattle.mm_unify.specs.Forbidden.{Forbidden}
 use Rattle.mm_unify.specs.Variables.{numbers, with_number}
 use Rattle.std.proofs.Common.{◌^◌, Option, None, Some, add_comm, length}
 use Rattle.mm_unify.specs.Listings.{answer}
-use Rattle.mm_unify.specs.Search.{Node, Visit, Answer, dead_end, cut, falls_short, child, steps, visit, visit_cut, explore, is_too_long, unless_long, stop, after, root, roots, selves}
+use Rattle.mm_unify.specs.Search.{Node, Visit, dead_end, cut, falls_short, child, steps, visit, visit_cut, explore, is_too_long, unless_long, root, roots, selves}
 use Rattle.mm_unify.proofs.Lists.{AllByRecursion-append}
 use Rattle.mm_unify.proofs.Cut.{cut_front}
 use Rattle.mm_unify.proofs.Balanced.{Plain, plain_right}

@@ -1,16 +1,14 @@
 -- A typecode and a work variable against the typecode and a value.
-use Rattle.std.proofs.Common.{ℕ, ◌+◌, ◌*◌, ◌≡◌, ◌≢◌, ◌≤◌, List, [], ◌∷◌, ◌++◌, Bool, true, false, length, refl, sym, ap, ◌∙◌, inl, inr, Option, arith, add-zero}
+use Rattle.std.proofs.Common.{ℕ, ◌+◌, ◌*◌, ◌≡◌, ◌≤◌, List, [], ◌∷◌, false, length, refl, ap, ◌∙◌, inr, Option, arith}
 use Rattle.std.proofs.lemmas.Bool.{or_from}
 use Rattle.mm_subst.specs.declared.symbol.WSym.{WSym}
 use Rattle.mm_subst.specs.declared.symbol.WSym.TheVariants.{Const, Var, Work}
 use Rattle.mm_subst.specs.declared.brackets.Brackets.{Brackets}
-use Rattle.mm_subst.specs.Substitutions.{Pairs}
 use Rattle.mm_subst.specs.Symbols.{is_work, has_work}
 use Rattle.mm_unify.specs.Variables.{numbers}
-use Rattle.mm_unify.specs.Forbidden.{Forbidden, forbidden_by}
-use Rattle.mm_unify.specs.Search.{Answer, explore, root, roots, selves}
+use Rattle.mm_unify.specs.Forbidden.{forbidden_by}
+use Rattle.mm_unify.specs.Search.{explore, roots, selves}
 use Rattle.mm_unify.specs.Laws.{IsValue, only, FindsValue}
-use Rattle.mm_unify.specs.declared.listing.Ended.TheVariants.{Whole}
 use Rattle.mm_unify.proofs.Opened.{fair_by}
 use Rattle.mm_unify.proofs.Balanced.{Plain}
 use Rattle.mm_unify.proofs.Weight.{plain_from_test}

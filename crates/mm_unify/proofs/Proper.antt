@@ -1,15 +1,13 @@
 -- Substitutions of work variables with no empty value.
-use Rattle.std.proofs.Common.{ℕ, zero, suc, ◌+◌, ◌≡◌, ◌≢◌, ◌<◌, ◌≤◌, List, [], ◌∷◌, ◌++◌, Bool, true, false, cond, map, length, refl, sym, ap, ◌∙◌, subst, inl, inr, ◌⊎◌, arith, rules, length-append}
-use Rattle.std.specs.List.{flat_map, AllByRecursion, All}
+use Rattle.std.proofs.Common.{◌≡◌, ◌≢◌, ◌<◌, List, [], ◌∷◌, true, false, length, refl, ap, arith, length-append}
+use Rattle.std.specs.List.{AllByRecursion}
 use Rattle.std.proofs.lemmas.List.Elements.{recursion_from_All, All-from_recursion}
-use Rattle.std.proofs.lemmas.Bool.{cond_both}
 use Rattle.mm_subst.specs.declared.symbol.WSym.{WSym}
-use Rattle.mm_subst.specs.declared.symbol.WSym.TheVariants.{Const, Var, Work}
-use Rattle.mm_subst.specs.Symbols.{is_same, is_work}
+use Rattle.mm_subst.specs.Symbols.{is_work}
 use Rattle.mm_subst.specs.Substitutions.{Pairs, value_of, applied}
 use Rattle.mm_unify.specs.Unifying.{IsProper}
-use Rattle.mm_subst.proofs.Keys.{is_same-true, is_same-itself}
-use Rattle.mm_unify.proofs.Mapping.{behind, value_cases, value_first, value_later}
+use Rattle.mm_subst.proofs.Keys.{is_same-true}
+use Rattle.mm_unify.proofs.Mapping.{behind, value_cases}
 
 abbrev pub Good : Pairs → Type 0
 Good phi = AllByRecursion (λ p. (is_work p.0 ≡ true) × (0 < length p.1)) phi

@@ -1,24 +1,18 @@
 -- The search from its first node, in the words of the theorem.
-use Rattle.std.proofs.Common.{ℕ, zero, suc, ◌+◌, ◌≡◌, ◌≢◌, ◌<◌, ◌≤◌, List, [], ◌∷◌, ◌++◌, Bool, true, false, cond, ◌||◌, eqb, ltb, map, length, get_or, refl, sym, ap, ◌∙◌, subst, inl, inr, ◌⊎◌, arith, rules, length-append, append_assoc}
-use Rattle.std.specs.List.{All, AllByRecursion, list_any}
-use Rattle.std.proofs.lemmas.List.Elements.{recursion_from_All, All-from_recursion}
-use Rattle.std.proofs.lemmas.Bool.{cond_both, ltb-true, ltb-false, eqb-true, eqb-false}
+use Rattle.std.proofs.Common.{ℕ, ◌≡◌, List, [], ◌∷◌, ◌++◌, cond, eqb, ltb, refl, sym, ap, ◌∙◌, subst, inl, inr, ◌⊎◌}
+use Rattle.std.specs.List.{AllByRecursion}
+use Rattle.std.proofs.lemmas.Bool.{cond_both, eqb-true}
 use Rattle.mm_subst.specs.declared.symbol.WSym.{WSym}
 use Rattle.mm_subst.specs.declared.symbol.WSym.TheVariants.{Const, Var, Work}
-use Rattle.mm_subst.specs.Symbols.{is_same, is_work}
-use Rattle.mm_subst.specs.Substitutions.{Pairs, value_of, applied}
-use Rattle.mm_unify.specs.Unifying.{IsProper, Unifies}
-use Rattle.mm_unify.specs.Search.{Node, Answer, explore, root, selves}
+use Rattle.mm_subst.specs.Substitutions.{Pairs, value_of}
+use Rattle.mm_unify.specs.Unifying.{Unifies}
+use Rattle.mm_unify.specs.Search.{explore, root, selves}
 use Rattle.mm_unify.specs.Forbidden.{Forbidden}
 use Rattle.mm_unify.specs.Variables.{numbers, with_number}
-use Rattle.mm_unify.specs.Unifying.{IsInstance}
-use Rattle.mm_unify.specs.declared.listing.Ended.{Ended}
 use Rattle.mm_unify.specs.declared.listing.Ended.TheVariants.{Whole}
-use Rattle.mm_subst.proofs.Keys.{is_same-true, is_same-itself}
-use Rattle.mm_subst.proofs.Replaced.{applied-append, applied-empty, applied-one}
-use Rattle.mm_unify.proofs.Mapping.{is_same-false, value_cases, value_first, value_later}
-use Rattle.mm_unify.proofs.Proper.{Good, good, proper, value_plain}
-use Rattle.mm_unify.proofs.Lists.{NoneOf, OneOf}
+use Rattle.mm_subst.proofs.Replaced.{applied-one}
+use Rattle.mm_unify.proofs.Proper.{Good, good, value_plain}
+use Rattle.mm_unify.proofs.Lists.{OneOf}
 use Rattle.mm_unify.proofs.Cover.{Agrees, Covers, Alike, AlikeOn, Determined}
 use Rattle.mm_unify.proofs.Explored.{Lists, explored}
 use Rattle.mm_unify.proofs.Opened.{IsOff}

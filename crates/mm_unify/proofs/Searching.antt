@@ -1,8 +1,8 @@
 -- The search over frames.
-use Rattle.std.proofs.Common.{ℕ, zero, suc, ◌+◌, ◌-◌, ◌≡◌, ◌<◌, ◌≤◌, List, [], ◌∷◌, ◌++◌, Bool, true, false, ◌||◌, map, take, drop, length, reverse, Option, Some, None, IfNone, refl, sym, ap, ◌∙◌, subst, inl, inr, ◌⊎◌, arith, append_assoc, length-append, length-take}
+use Rattle.std.proofs.Common.{ℕ, zero, suc, ◌+◌, ◌≡◌, ◌<◌, ◌≤◌, List, [], ◌∷◌, ◌++◌, true, false, map, take, length, reverse, Option, Some, None, IfNone, refl, sym, ap, ◌∙◌, subst, ◌⊎◌, arith, length-append, length-take}
 use Rattle.std.specs.Prelude.{nat_lt}
 use Rattle.std.specs.List.{AllByRecursion, list_any}
-use Rattle.std.proofs.lemmas.List.{append-nil, take_all}
+use Rattle.std.proofs.lemmas.List.{take_all}
 use Rattle.std.proofs.lemmas.Bool.{or_from}
 use Rattle.std.proofs.Math.Seq.{take-append_seam}
 use Rattle.mm_subst.specs.declared.symbol.WSym.{WSym}
@@ -12,7 +12,7 @@ use Rattle.mm_subst.specs.declared.brackets.Bracket.{Bracket}
 use Rattle.mm_subst.specs.Symbols.{has_work}
 use Rattle.mm_subst.specs.Applied.{most_symbols}
 use Rattle.mm_subst.specs.Brackets.{is_opened_first, openings, closings}
-use Rattle.mm_subst.specs.Substitutions.{Pairs, applied}
+use Rattle.mm_subst.specs.Substitutions.{Pairs}
 use Rattle.mm_subst.proofs.Prefixes.{opened_first}
 use Rattle.mm_subst.proofs.Replaced.{applied-empty}
 use Rattle.mm_unify.specs.declared.bound.Bound.{Bound}
@@ -23,11 +23,11 @@ use Rattle.mm_unify.specs.declared.listing.Ended.TheVariants.{Whole as Everythin
 use Rattle.mm_unify.specs.Unifying.{restricted}
 use Rattle.mm_unify.specs.Variables.{numbers}
 use Rattle.mm_unify.specs.Forbidden.{Forbidden, forbidden_by}
-use Rattle.mm_unify.specs.Search.{Node, Answer, Visit, is_too_long, plain_count, visit, root}
+use Rattle.mm_unify.specs.Search.{Node, Answer, is_too_long, plain_count, visit, root}
 use Rattle.mm_unify.specs.Listings.{answer}
 use Rattle.mm_unify.specs.Trials.{is_spent, fewer}
-use Rattle.mm_unify.specs.Parts.{IsPlain, parts_of}
-use Rattle.mm_unify.specs.Frames.{node_of, node_at, node_in, theta_of, length_by, some_early, some_long, bound_path, first_of, StepFits, Fits, Adds, Visits}
+use Rattle.mm_unify.specs.Parts.{IsPlain}
+use Rattle.mm_unify.specs.Frames.{node_at, node_in, length_by, bound_path, first_of, StepFits, Fits, Visits}
 use Rattle.mm_unify.proofs.Opened.{IsFair, fair_by, from_three, to_not}
 use Rattle.mm_unify.proofs.Lists.{AllByRecursion-append}
 use Rattle.mm_unify.proofs.Weight.{side_of}

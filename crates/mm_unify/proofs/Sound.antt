@@ -1,19 +1,17 @@
 -- Each listed unifier has the work variables of the two strings as its keys, in order, and makes them equal.
-use Rattle.std.proofs.Common.{ℕ, zero, suc, ◌+◌, ◌≡◌, ◌≢◌, ◌<◌, ◌≤◌, List, [], ◌∷◌, ◌++◌, Bool, true, false, cond, if◌then◌else◌, Option, Some, None, ◌||◌, eqb, ltb, map, length, get_or, refl, sym, ap, ◌∙◌, subst, inl, inr, ◌⊎◌, arith, rules, length-append, append_assoc}
-use Rattle.std.specs.List.{All, AllByRecursion, list_any}
-use Rattle.std.proofs.lemmas.Bool.{cond_both, cond-false}
+use Rattle.std.proofs.Common.{ℕ, zero, suc, ◌≡◌, List, [], ◌∷◌, ◌++◌, Bool, true, false, cond, if◌then◌else◌, Some, ◌||◌, map, refl, sym, ap, ◌∙◌, inl, inr, ◌⊎◌}
+use Rattle.std.specs.List.{AllByRecursion, list_any}
+use Rattle.std.proofs.lemmas.Bool.{cond_both}
 use Rattle.mm_subst.specs.declared.symbol.WSym.{WSym}
 use Rattle.mm_subst.specs.declared.symbol.WSym.TheVariants.{Const, Var, Work}
 use Rattle.mm_subst.specs.Symbols.{is_same, is_work}
 use Rattle.mm_subst.specs.Substitutions.{Pairs, value_of, value_at, or_itself, applied, with_values}
-use Rattle.mm_unify.specs.Unifying.{IsProper, Unifies}
-use Rattle.mm_unify.specs.Search.{Node, Visit, Answer, dead_end, cut, falls_short, child, steps, visit, visit_cut, explore, is_too_long, unless_long, stop, after, root, selves}
+use Rattle.mm_unify.specs.Search.{Node, Visit, Answer, dead_end, cut, falls_short, child, steps, visit, visit_cut, explore, is_too_long, unless_long, root, selves}
 use Rattle.mm_unify.specs.Forbidden.{Forbidden}
 use Rattle.mm_unify.specs.Variables.{numbers}
-use Rattle.mm_unify.specs.declared.listing.Ended.{Ended}
 use Rattle.mm_subst.proofs.Keys.{is_same-true, is_same-itself}
 use Rattle.mm_subst.proofs.Replaced.{applied-append, applied-empty, applied-one}
-use Rattle.mm_unify.proofs.Mapping.{applied-applied, applied-behind, behind, is_same-false, value_cases, value_first, value_later}
+use Rattle.mm_unify.proofs.Mapping.{applied-behind, behind, is_same-false, value_cases, value_later}
 use Rattle.mm_unify.proofs.Cut.{cut_front}
 use Rattle.mm_unify.proofs.Lists.{AllByRecursion-append}
 use Rattle.mm_unify.proofs.Root.{Has, Numbered, numbered, numbered_left, numbered_right}

@@ -1,26 +1,24 @@
 -- The theorems of a listing.
-use Rattle.std.proofs.Common.{ℕ, ◌+◌, ◌-◌, ◌^◌, ◌≡◌, ◌≢◌, ◌<◌, ◌≤◌, List, [], ◌∷◌, ◌++◌, Bool, true, false, map, length, get_or, refl, sym, ap, ◌∙◌, subst, inl, inr, ◌⊎◌, arith, Option, Some, None, IfNone, suc}
-use Rattle.std.specs.List.{All, AllByRecursion, Contains}
+use Rattle.std.proofs.Common.{ℕ, ◌≡◌, ◌≢◌, ◌<◌, List, [], ◌∷◌, ◌++◌, false, map, length, get_or, refl, sym, ap, ◌∙◌, subst, inl, inr, ◌⊎◌, arith, Option, Some, None, IfNone, suc}
+use Rattle.std.specs.List.{All, AllByRecursion}
 use Rattle.std.proofs.lemmas.List.Elements.{recursion_from_All, All-from_recursion}
 use Rattle.mm_subst.specs.declared.symbol.WSym.{WSym}
 use Rattle.mm_subst.specs.declared.symbol.WSym.TheVariants.{Work}
 use Rattle.mm_subst.specs.declared.brackets.Brackets.{Brackets}
-use Rattle.mm_unify.specs.declared.listing.Ended.{Ended}
 use Rattle.mm_unify.specs.declared.listing.Ended.TheVariants.{Whole, Trials}
-use Rattle.mm_subst.specs.Symbols.{is_same, is_work, has_work}
+use Rattle.mm_subst.specs.Symbols.{is_same, has_work}
 use Rattle.mm_subst.specs.Substitutions.{Pairs, value_at, value_of, applied, HasDistinctKeys}
-use Rattle.mm_unify.specs.Unifying.{Unifies, IsComplete, IsInstance, restricted}
-use Rattle.mm_unify.specs.Search.{Node, Answer, explore, root, roots}
+use Rattle.mm_unify.specs.Unifying.{IsComplete, restricted}
+use Rattle.mm_unify.specs.Search.{root, roots}
 use Rattle.mm_unify.specs.Variables.{numbers}
 use Rattle.mm_unify.specs.Forbidden.{Forbidden, forbidden_by}
 use Rattle.mm_unify.specs.Listings.{limit, answer, HasKeys, HasBalanced}
 use Rattle.mm_unify.proofs.Opened.{fair_by, off_by}
-use Rattle.mm_unify.proofs.Root.{Has}
 use Rattle.mm_unify.proofs.Sound.{keys, Solves, sound}
 use Rattle.mm_unify.proofs.Once.{complete, has_all, Rising, rising_numbers, above_has, not_here}
 use Rattle.mm_unify.proofs.Mapping.{value_first, value_later}
 use Rattle.mm_subst.proofs.Keys.{is_same-itself}
-use Rattle.mm_unify.proofs.Balanced.{SomeOf, SameOn, Balanced, balanced_listed}
+use Rattle.mm_unify.proofs.Balanced.{SomeOf, SameOn, balanced_listed}
 use Rattle.mm_unify.proofs.Weight.{plain_from_test, sided_first, side_of, enough_at_first, enough_visits}
 
 each_sound : (a b : List WSym) (us : List Pairs) → AllByRecursion (Solves a b) us → AllByRecursion (λ u. applied u a ≡ applied u b) us

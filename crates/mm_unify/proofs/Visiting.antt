@@ -1,24 +1,21 @@
 -- A visit of a frame is a visit of its node.
-use Rattle.std.proofs.Common.{ℕ, zero, suc, ◌+◌, ◌-◌, ◌≡◌, ◌<◌, ◌≤◌, List, [], ◌∷◌, ◌++◌, Bool, true, false, cond, ◌||◌, map, take, drop, length, reverse, Option, Some, None, Result, Ok, Err, IfOk, refl, sym, ap, ◌∙◌, subst, arith, append_assoc, length-append, length-take, length-drop}
-use Rattle.std.specs.Prelude.{nat_lt}
-use Rattle.std.specs.List.{AllByRecursion, list_any}
+use Rattle.std.proofs.Common.{ℕ, ◌+◌, ◌-◌, ◌≡◌, ◌<◌, ◌≤◌, List, [], ◌∷◌, ◌++◌, Bool, false, take, drop, length, reverse, Result, Ok, Err, IfOk, refl, sym, ap, ◌∙◌, subst, arith, append_assoc, length-append, length-take, length-drop}
+use Rattle.std.specs.List.{list_any}
 use Rattle.std.proofs.lemmas.List.{append-nil, take_all}
 use Rattle.std.proofs.Math.Seq.{take-append_seam, take-append-add}
 use Rattle.mm_subst.specs.declared.symbol.WSym.{WSym}
 use Rattle.mm_subst.specs.declared.symbol.WSym.TheVariants.{Work}
-use Rattle.mm_subst.specs.Substitutions.{Pairs, value_at, value_of, applied}
+use Rattle.mm_subst.specs.Substitutions.{Pairs, value_of, applied}
 use Rattle.mm_subst.proofs.Replaced.{applied-append, applied-one}
 use Rattle.mm_unify.specs.declared.bound.Bound.{Bound}
 use Rattle.mm_unify.specs.declared.advance.Open.{Open}
 use Rattle.mm_unify.specs.declared.frame.Frame.{Frame}
-use Rattle.mm_unify.specs.declared.frame.Kind.{Kind}
-use Rattle.mm_unify.specs.declared.frame.Kind.TheVariants.{First, Whole, Longer}
-use Rattle.mm_unify.specs.Unifying.{restricted}
+use Rattle.mm_unify.specs.declared.frame.Kind.TheVariants.{Whole, Longer}
 use Rattle.mm_unify.specs.Variables.{numbers}
 use Rattle.mm_unify.specs.Forbidden.{Forbidden}
-use Rattle.mm_unify.specs.Search.{Node, Visit, dead_end, plain_count, visit}
+use Rattle.mm_unify.specs.Search.{Node, Visit, plain_count, visit}
 use Rattle.mm_unify.specs.Parts.{IsPlain, part, parts_of, AreWithin, Opens, IsFresh}
-use Rattle.mm_unify.specs.Frames.{node_of, with_value, open_value, theta_by, theta_of, node_at, node_in, some_early, some_long, StepFits, Fits, MayGrow, Adds, Visits}
+use Rattle.mm_unify.specs.Frames.{node_of, with_value, open_value, theta_by, theta_of, node_in, some_early, some_long, StepFits, Fits, MayGrow, Adds, Visits}
 use Rattle.mm_unify.proofs.Mapping.{applied_everywhere}
 use Rattle.mm_unify.proofs.Opened.{IsFair}
 use Rattle.mm_unify.proofs.Along.{last_own, last_self, node_same, restricted_same, visit_further, not_met, applied_last, front_part, open_whole, open_rest, plain_take}

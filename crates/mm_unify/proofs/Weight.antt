@@ -1,23 +1,21 @@
 -- Where one side has no work variable the search ends: each visit makes the waiting nodes lighter.
-use Rattle.std.proofs.Common.{ℕ, zero, suc, ◌+◌, ◌*◌, ◌^◌, ◌-◌, ◌≡◌, ◌≢◌, ◌<◌, ◌≤◌, List, [], ◌∷◌, ◌++◌, Bool, true, false, cond, ◌||◌, not, map, length, reverse, refl, zero-add, add_assoc, sym, ap, ◌∙◌, subst, inl, inr, ◌⊎◌, arith, append_assoc, length-append}
-use Rattle.std.specs.List.{All, AllByRecursion, list_any, list_all, sum_by}
-use Rattle.std.proofs.lemmas.List.{append-nil, reverse-append, reverse-reverse, length-reverse}
+use Rattle.std.proofs.Common.{ℕ, zero, suc, ◌+◌, ◌*◌, ◌^◌, ◌≡◌, ◌<◌, ◌≤◌, List, [], ◌∷◌, ◌++◌, Bool, true, false, cond, ◌||◌, not, map, length, reverse, refl, sym, ap, subst, inl, inr, ◌⊎◌, arith, length-append}
+use Rattle.std.specs.List.{AllByRecursion, list_any, sum_by}
+use Rattle.std.proofs.lemmas.List.{reverse-append}
 use Rattle.std.proofs.lemmas.List.Sums.{sum_by-cons, sum_by-append}
 use Rattle.std.proofs.Math.Nat.{pow-succ'}
-use Rattle.std.proofs.lemmas.Bool.{cond_both, cond-true, cond-false, or_parts}
+use Rattle.std.proofs.lemmas.Bool.{cond_both, cond-true, or_parts}
 use Rattle.mm_subst.specs.declared.symbol.WSym.{WSym}
 use Rattle.mm_subst.specs.Symbols.{is_same, is_work, has_work}
-use Rattle.mm_subst.specs.Substitutions.{Pairs, value_of, applied}
-use Rattle.mm_unify.specs.Search.{Node, Visit, dead_end, cut, falls_short, child, steps, visit, visit_cut, explore, is_too_long, unless_long, after, Answer}
+use Rattle.mm_subst.specs.Substitutions.{Pairs, applied}
+use Rattle.mm_unify.specs.Search.{Node, dead_end, cut, falls_short, child, steps, visit, visit_cut, explore, is_too_long, unless_long, after, Answer}
 use Rattle.mm_unify.specs.Forbidden.{Forbidden}
-use Rattle.mm_unify.specs.declared.listing.Ended.{Ended}
-use Rattle.mm_unify.specs.declared.listing.Ended.TheVariants.{Whole, Trials, Length}
+use Rattle.mm_unify.specs.declared.listing.Ended.TheVariants.{Trials}
 use Rattle.mm_subst.proofs.Keys.{is_same-itself}
-use Rattle.mm_subst.proofs.Replaced.{applied-append}
-use Rattle.mm_unify.proofs.Mapping.{value_cases, value_first, value_later}
+use Rattle.mm_unify.proofs.Mapping.{value_first}
 use Rattle.mm_unify.proofs.Cut.{cut_front}
 use Rattle.mm_unify.proofs.Lists.{AllByRecursion-append}
-use Rattle.mm_unify.proofs.Balanced.{Plain, plain_apply, plain_left, plain_right, step_plain}
+use Rattle.mm_unify.proofs.Balanced.{Plain, plain_apply, plain_right, step_plain}
 
 abbrev pub pow3 : ℕ → ℕ
 pow3 zero = 1

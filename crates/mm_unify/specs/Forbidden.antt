@@ -1,5 +1,5 @@
 -- What brackets forbid of the values of a search.
-use Rattle.std.specs.Prelude.{ℕ, Bool, true, false, ◌&&◌, not, List, Option, None, Some, if◌then◌else◌}
+use Rattle.std.specs.Prelude.{ℕ, Bool, false, ◌&&◌, not, List, Option, None, Some, if◌then◌else◌}
 use Rattle.mm_subst.specs.Brackets.{is_opened_first, are_balanced, brackets_of}
 use Rattle.mm_subst.specs.declared.symbol.WSym.{WSym}
 use Rattle.mm_subst.specs.declared.brackets.Brackets.{Brackets}

@@ -1,8 +1,7 @@
 -- What waits in a search against a string without work variables.
-use Rattle.std.specs.Prelude.{ℕ, ◌≡◌, ◌+◌, ◌-◌, ◌<◌, ◌≤◌, Bool, true, false, cond, List, [], ◌∷◌, ◌++◌, map, take, drop, length, reverse, nat_lt}
+use Rattle.std.specs.Prelude.{ℕ, ◌≡◌, ◌+◌, ◌-◌, ◌<◌, ◌≤◌, Bool, false, cond, List, [], ◌∷◌, ◌++◌, map, take, drop, length, reverse, nat_lt}
 use Rattle.std.specs.List.{AllByRecursion, list_any}
-use Rattle.mm_subst.specs.Symbols.{is_work}
-use Rattle.mm_subst.specs.Substitutions.{Pairs, value_at, applied}
+use Rattle.mm_subst.specs.Substitutions.{Pairs, applied}
 use Rattle.mm_subst.specs.Applied.{most_symbols}
 use Rattle.mm_subst.specs.declared.symbol.WSym.{WSym}
 use Rattle.mm_subst.specs.declared.symbol.WSym.TheVariants.{Work}

@@ -1,11 +1,10 @@
 -- Laws of the search.
-use Rattle.std.specs.Prelude.{ℕ, ◌+◌, ◌*◌, ◌≡◌, ◌≢◌, ◌<◌, ◌≤◌, ◌⊎◌, false, List, [], ◌∷◌, length, Option, Some}
+use Rattle.std.specs.Prelude.{ℕ, ◌+◌, ◌*◌, ◌≡◌, ◌≢◌, ◌<◌, ◌≤◌, ◌⊎◌, false, List, [], ◌∷◌, length, Option}
 use Rattle.mm_subst.specs.Applied.{most_symbols}
 use Rattle.mm_subst.specs.Symbols.{is_work, has_work}
 use Rattle.mm_subst.specs.declared.symbol.WSym.{WSym}
 use Rattle.mm_subst.specs.declared.symbol.WSym.TheVariants.{Work}
 use Rattle.mm_subst.specs.declared.brackets.Brackets.{Brackets}
-use Rattle.mm_unify.specs.declared.listing.Ended.{Ended}
 use Rattle.mm_unify.specs.declared.listing.Ended.TheVariants.{Whole, Trials}
 use Rattle.mm_unify.specs.Forbidden.{Forbidden, forbidden_by}
 use Rattle.mm_unify.specs.Search.{Node, Answer, explore, roots}

@@ -1,5 +1,5 @@
 -- The list of unifiers of two strings.
-use Rattle.std.specs.Prelude.{ℕ, ◌+◌, ◌^◌, ◌≡◌, List, ◌++◌, Bool, false, Option, None, Some, length, map, All, Contains}
+use Rattle.std.specs.Prelude.{ℕ, ◌+◌, ◌^◌, ◌≡◌, List, ◌++◌, false, Option, None, Some, length, map, All, Contains}
 use Rattle.mm_subst.specs.Substitutions.{Pairs, value_of}
 use Rattle.mm_subst.specs.declared.symbol.WSym.{WSym}
 use Rattle.mm_subst.specs.declared.symbol.WSym.TheVariants.{Work}

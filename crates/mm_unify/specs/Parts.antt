@@ -1,5 +1,5 @@
 -- Work variables that stand for parts of a string without work variables.
-use Rattle.std.specs.Prelude.{ℕ, ◌≡◌, ◌+◌, ◌-◌, ◌<◌, ◌≤◌, false, List, [], ◌∷◌, ◌++◌, None, map, take, drop, length}
+use Rattle.std.specs.Prelude.{ℕ, ◌≡◌, ◌+◌, ◌-◌, ◌<◌, ◌≤◌, false, List, ◌∷◌, ◌++◌, None, map, take, drop, length}
 use Rattle.std.specs.List.{AllByRecursion}
 use Rattle.mm_subst.specs.Symbols.{is_work}
 use Rattle.mm_subst.specs.Substitutions.{Pairs, value_at, applied}

@@ -1,10 +1,7 @@
-use Rattle.std.proofs.Common.{◌≡◌, ◌+◌, ◌-◌, ◌<◌, ◌≤◌, List, ◌++◌, get_or, length, take, drop, sym, ap, ◌∙◌, arith, length-drop}
+use Rattle.std.proofs.Common.{◌≡◌, ◌+◌, ◌-◌, length, take, drop, ap, arith, length-drop}
 use Rattle.std.proofs.lemmas.List.{take_all}
-use Rattle.mm_subst.specs.declared.symbol.WSym.{WSym}
-use Rattle.mm_subst.specs.declared.symbol.WSym.TheVariants.{Const}
-use Rattle.mm_subst.specs.Substitutions.{value_of, applied}
+use Rattle.mm_subst.specs.Substitutions.{applied}
 use Rattle.mm_unify.specs.Parts.{parts_of}
-use Rattle.mm_unify.specs.Search.{cut}
 use Rattle.mm_unify.proofs.Advancing.{stuck_come, come_further}
 use Rattle.mm_unify.proofs.advance.advance.Goals as goal
 

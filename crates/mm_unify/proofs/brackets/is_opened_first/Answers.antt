@@ -1,4 +1,4 @@
-use Rattle.std.proofs.Common.{◌≡◌, sym, ◌∙◌, arith}
+use Rattle.std.proofs.Common.{sym, ◌∙◌, arith}
 use Rattle.mm_unify.proofs.Opened.{closes_early}
 use Rattle.mm_subst.proofs.Prefixes.{opened_first}
 use Rattle.mm_unify.proofs.brackets.is_opened_first.Goals as goal

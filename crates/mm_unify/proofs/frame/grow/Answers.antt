@@ -1,4 +1,4 @@
-use Rattle.std.proofs.Common.{◌≡◌, ◌<◌, ◌+◌, ◌⊎◌, List, [], ◌∷◌, ◌++◌, length, true, refl, ◌∙◌, ap, inl, inr, arith}
+use Rattle.std.proofs.Common.{◌≡◌, ◌<◌, ◌+◌, ◌⊎◌, [], ◌∷◌, ◌++◌, length, true, refl, ◌∙◌, ap, inl, inr, arith}
 use Rattle.mm_unify.specs.declared.frame.Kind.TheVariants.{Whole, Longer}
 use Rattle.mm_unify.proofs.Growing.{frame_with, stays, grows}
 use Rattle.mm_unify.proofs.Opened.{fair_by}

@@ -1,5 +1,5 @@
-use Rattle.std.proofs.Common.{◌≡◌, ◌≢◌, List, All, Option, Some, None, IfNone, sym, ◌∙◌, ap, subst, if◌then◌else◌}
-use Rattle.mm_subst.specs.Substitutions.{Pairs, applied, HasDistinctKeys}
+use Rattle.std.proofs.Common.{◌≡◌, ◌≢◌, All, Some, None, IfNone, sym, ◌∙◌, ap, subst, if◌then◌else◌}
+use Rattle.mm_subst.specs.Substitutions.{applied, HasDistinctKeys}
 use Rattle.mm_unify.specs.declared.listing.Ended.{Ended}
 use Rattle.mm_unify.specs.declared.listing.Ended.TheVariants.{Trials}
 use Rattle.mm_subst.specs.Brackets.{brackets_of}

@@ -1,4 +1,4 @@
-use Rattle.std.proofs.Common.{◌≡◌, sym, ◌∙◌, ap, inl}
+use Rattle.std.proofs.Common.{sym, ◌∙◌, ap, inl}
 use Rattle.mm_unify.specs.Forbidden.{forbidden_by}
 use Rattle.mm_unify.specs.Listings.{answer}
 use Rattle.mm_unify.proofs.Mirror.{answer-mirror}

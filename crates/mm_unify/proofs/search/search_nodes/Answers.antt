@@ -1,5 +1,4 @@
-use Rattle.std.proofs.Common.{rules, ◌≡◌, [], ◌∷◌, ◌++◌, sym, ◌∙◌, ap}
-use Rattle.mm_unify.specs.Search.{root}
+use Rattle.std.proofs.Common.{rules, [], ◌∷◌, ◌++◌, sym, ◌∙◌, ap}
 use Rattle.mm_unify.proofs.Remains.{remains_first, remains_none, remains_zero, remains_long, remains_step, further_step}
 use Rattle.mm_unify.proofs.search.search_nodes.Goals as goal
 

@@ -1,9 +1,8 @@
-use Rattle.std.proofs.Common.{rules, ℕ, ◌≡◌, ◌<◌, ◌≤◌, List, [], ◌∷◌, ◌++◌, true, false, length, take, IfNone, Option, None, Some, refl, sym, ◌∙◌, ap, subst, inr, arith}
-use Rattle.mm_subst.specs.Symbols.{has_work}
+use Rattle.std.proofs.Common.{rules, List, [], ◌∷◌, ◌++◌, refl, sym, ◌∙◌, ap, subst, inr}
 use Rattle.mm_unify.specs.declared.bound.Bound.{Bound}
 use Rattle.mm_unify.specs.Forbidden.{forbidden_by}
 use Rattle.mm_unify.specs.Search.{is_too_long}
-use Rattle.mm_unify.specs.Frames.{Fits, Visits, bound_path, first_of, node_at}
+use Rattle.mm_unify.specs.Frames.{Fits, Visits, node_at}
 use Rattle.mm_unify.proofs.Weight.{plain_from_test}
 use Rattle.mm_unify.proofs.Searching.{begins, none_any, top_fits, long_top, ends_spent, ends_long, ends_whole, goes_on, gets_less, bound_keeps, to_within}
 use Rattle.mm_unify.proofs.search.search_parts.Goals as goal

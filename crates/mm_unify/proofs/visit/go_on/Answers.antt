@@ -1,9 +1,8 @@
-use Rattle.std.proofs.Common.{◌≡◌, ◌++◌, ◌∷◌, [], cond, sym, ◌∙◌, ap}
+use Rattle.std.proofs.Common.{◌++◌, ◌∷◌, [], cond, sym, ◌∙◌, ap}
 use Rattle.std.specs.List.{list_any}
 use Rattle.mm_unify.specs.Forbidden.{forbidden_by}
 use Rattle.mm_unify.specs.Search.{visit}
 use Rattle.mm_unify.specs.Frames.{node_of}
-use Rattle.mm_unify.specs.Variables.{numbers}
 use Rattle.mm_unify.specs.Unifying.{restricted}
 use Rattle.mm_unify.specs.Parts.{parts_of}
 use Rattle.mm_unify.proofs.Opened.{fair_by}

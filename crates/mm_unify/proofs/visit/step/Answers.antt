@@ -1,9 +1,8 @@
-use Rattle.std.proofs.Common.{◌≡◌, ◌++◌, ◌∷◌, [], take, sym, ◌∙◌, ap}
+use Rattle.std.proofs.Common.{◌∙◌, ap}
 use Rattle.mm_subst.proofs.Replaced.{applied-nil}
-use Rattle.mm_unify.specs.Forbidden.{forbidden_by}
 use Rattle.mm_unify.specs.Frames.{bound_path}
 use Rattle.mm_unify.proofs.Opened.{fair_by}
-use Rattle.mm_unify.proofs.Visiting.{ok_map, ok_both, bound_of, come_now, short_now, early_now, visits_whole, visits_longer}
+use Rattle.mm_unify.proofs.Visiting.{ok_map, ok_both, come_now, short_now, early_now, visits_whole, visits_longer}
 use Rattle.mm_unify.proofs.visit.step.Goals as goal
 
 pub go_on-requires-clause-come : goal.go_on-requires-clause-come

@@ -1,4 +1,4 @@
-use Rattle.std.proofs.Common.{◌≡◌, ◌≤◌, length, drop, [], sym, ap, ◌∙◌, arith, List}
+use Rattle.std.proofs.Common.{drop, sym, ap, ◌∙◌, arith, List}
 use Rattle.std.proofs.lemmas.List.{drop_all}
 use Rattle.mm_subst.specs.declared.symbol.WSym.{WSym}
 use Rattle.mm_unify.proofs.Cut.{cut_end}

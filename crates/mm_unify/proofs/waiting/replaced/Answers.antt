@@ -1,4 +1,4 @@
-use Rattle.std.proofs.Common.{◌≡◌, sym, ◌∙◌, arith}
+use Rattle.std.proofs.Common.{sym, ◌∙◌, arith}
 use Rattle.mm_subst.proofs.Replaced.{applied-nil, one_more}
 use Rattle.mm_unify.proofs.waiting.replaced.Goals as goal
 
