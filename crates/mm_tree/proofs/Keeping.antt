@@ -187,10 +187,10 @@ line-cut : (v : Versions) (m : Mark) (next : ℕ) → IsWhole v next → v.begun
 line-cut v m next w h = append-take (take v.begun_length v.trail) v.draft_bindings v.begun_length (m.length - v.begun_length) (length-take-le v.begun_length v.trail w.begun_length)
     ∙ (let z : v.begun_length + (m.length - v.begun_length) ≡ m.length = omega arith in ap (λ (j : ℕ). take j (line_of v true)) z)
 
-hand-cut : (v : Versions) (m : Mark) (next : ℕ) → IsWhole v next → v.begun_root ≤ m.root → m.root < length (roots_of v true) → hand_root (cut_to v m) ≡ m.root
+pub hand-cut : (v : Versions) (m : Mark) (next : ℕ) → IsWhole v next → v.begun_root ≤ m.root → m.root < length (roots_of v true) → hand_root (cut_to v m) ≡ m.root
 hand-cut v m next w h g = omega (arith, length-roots v next w, length-take-le (m.root - v.begun_root) v.draft_roots (omega (arith, length-roots v next w)))
 
-length-cut : (v : Versions) (m : Mark) (next : ℕ) → IsWhole v next → v.begun_length ≤ m.length → m.length ≤ length (line_of v true) → hand_length (cut_to v m) ≡ m.length
+pub length-cut : (v : Versions) (m : Mark) (next : ℕ) → IsWhole v next → v.begun_length ≤ m.length → m.length ≤ length (line_of v true) → hand_length (cut_to v m) ≡ m.length
 length-cut v m next w h g = omega (arith, length-line v next w, length-take-le (m.length - v.begun_length) v.draft_bindings (omega (arith, length-line v next w)))
 
 node-cut : (v : Versions) (m : Mark) (next : ℕ) → IsWhole v next → v.begun_root ≤ m.root → m.root < length (roots_of v true) → hand_node (cut_to v m) ≡ node_of v true m.root

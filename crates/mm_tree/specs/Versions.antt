@@ -46,6 +46,14 @@ hand_root v = v.begun_root + length v.draft_roots
 abbrev pub hand_length : Versions → ℕ
 hand_length v = v.begun_length + length v.draft_bindings
 
+-- the version in hand has this root, and so many bindings
+abbrev pub StandsAt : Versions → ℕ → ℕ → Type 0
+StandsAt v root bindings = (hand_root v ≡ root) × (hand_length v ≡ bindings)
+
+-- the drafts begin at the same settled version
+abbrev pub BeginsAlike : Versions → Versions → Type 0
+BeginsAlike v w = (w.begun_root ≡ v.begun_root) × (w.begun_length ≡ v.begun_length)
+
 abbrev pub hand_node : Versions → TimedTree
 hand_node v = node_of v true (hand_root v)
 

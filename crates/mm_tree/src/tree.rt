@@ -15,7 +15,7 @@ ghost use Rattle.mm_plain.specs.Grafts.{cleared_in, grafted_in};
 ghost use Rattle.mm_plain.specs.Valid.{Fits, IsString, IsValid, first_setting, placed_in, setting_of};
 ghost use Rattle.mm_tree.specs.Meanings.{mean, count, tall, youngest, text_now};
 ghost use Rattle.mm_tree.specs.Placed.{HasRoom, IsDrawn, IsPlaced};
-ghost use Rattle.mm_tree.specs.Versions.{HasNoDrafts, is_draft, IsAlive, KeepsMarks, KeepsOlder, KeepsUpTo, hand_length, hand_node, line_of, named};
+ghost use Rattle.mm_tree.specs.Versions.{BeginsAlike, HasNoDrafts, is_draft, IsAlive, KeepsMarks, KeepsOlder, KeepsUpTo, StandsAt, hand_length, hand_node, hand_root, line_of, named};
 
 use crate::fault::{GraftFault, WorkSpent};
 use crate::line::Line;
@@ -249,6 +249,7 @@ impl Tree {
         requires short { All (λ h. length (applied sigma.now h) ≤ 32768) (premises_of db.now id.0) }
         ensures placed { IsPlaced result self.old self.new (placed_in db.now self.old.proof step id.0 sigma.now) }
         ensures marks { KeepsMarks self.old.versions self.new.versions }
+        ensures begun { BeginsAlike self.old.versions self.new.versions }
         ensures cost { steps.new ≤ steps.old + (depth_at self.old.proof.plain step + 1 + length (premises_of db.now id.0)) }
         // A proof that is valid for a theorem stays valid, where the statement and the values fit.
         ensures valid { OnOk result ((at : ℕ) (goal : List WSym) → IsValid db.now at goal self.old.proof → Fits (setting_of db.now at self.old.proof) id.0 sigma.now → IsValid db.now at goal self.new.proof) }
@@ -272,6 +273,7 @@ impl Tree {
         ensures ok { OnOk result (self.new.proof ≡ cleared_in self.old.proof step) }
         ensures err { OnErr result (self.new ≡ self.old) }
         ensures marks { KeepsMarks self.old.versions self.new.versions }
+        ensures begun { BeginsAlike self.old.versions self.new.versions }
         ensures cost { steps.new ≤ steps.old + (depth_at self.old.proof.plain step + 1) }
         // A proof that is valid for a theorem stays valid.
         ensures valid { OnOk result ((bytes : List ℕ) (at : ℕ) (goal : List WSym) → IsValid bytes at goal self.old.proof → IsValid bytes at goal self.new.proof) }
@@ -286,6 +288,7 @@ impl Tree {
     pub fn mark(&self) -> Mark
         ensures alive { IsAlive self.now.versions result }
         ensures named { named self.now.versions result ≡ self.now.proof }
+        ensures hand { StandsAt self.now.versions result.root result.length }
         ensures settled { HasNoDrafts self.now.versions → is_draft result ≡ false }
     {
         Mark {
@@ -302,6 +305,8 @@ impl Tree {
         ensures proof { self.new.proof ≡ named self.old.versions m }
         ensures settled { is_draft m ≡ false → HasNoDrafts self.new.versions }
         ensures marks { KeepsUpTo m self.old.versions self.new.versions }
+        ensures hand { StandsAt self.new.versions m.root m.length }
+        ensures begun { is_draft m ≡ true → BeginsAlike self.old.versions self.new.versions }
     {
         if m.turn == 0 {
             self.back_to_settled(m);
@@ -316,6 +321,8 @@ impl Tree {
         ensures proof { self.new.proof ≡ named self.old.versions m }
         ensures settled { is_draft m ≡ false → HasNoDrafts self.new.versions }
         ensures marks { KeepsUpTo m self.old.versions self.new.versions }
+        ensures hand { StandsAt self.new.versions m.root m.length }
+        ensures begun { is_draft m ≡ true → BeginsAlike self.old.versions self.new.versions }
     {
         self.back(m);
     }
@@ -326,6 +333,7 @@ impl Tree {
         ensures same { self.new.proof ≡ self.old.proof }
         ensures settled { HasNoDrafts self.new.versions }
         ensures marks { KeepsOlder self.old.versions self.new.versions }
+        ensures hand { StandsAt self.new.versions (hand_root self.old.versions) (hand_length self.old.versions) }
     {
         if self.draft_roots.is_empty() && self.draft_bindings.is_empty() {
             return;
@@ -348,6 +356,7 @@ impl Tree {
         ensures proof { self.new.proof ≡ named self.old.versions m }
         ensures settled { HasNoDrafts self.new.versions }
         ensures marks { KeepsUpTo m self.old.versions self.new.versions }
+        ensures hand { StandsAt self.new.versions m.root m.length }
     {
         self.draft_roots.clear();
         self.draft_bindings.clear();
@@ -363,6 +372,8 @@ impl Tree {
         requires kind { is_draft m ≡ true }
         ensures proof { self.new.proof ≡ named self.old.versions m }
         ensures marks { KeepsUpTo m self.old.versions self.new.versions }
+        ensures hand { StandsAt self.new.versions m.root m.length }
+        ensures begun { BeginsAlike self.old.versions self.new.versions }
     {
         self.draft_roots.truncate(m.root - self.begun_root);
         self.draft_bindings.truncate(m.length - self.begun_length);
@@ -437,6 +448,7 @@ impl Tree {
         ensures ok { OnOk result (self.new.proof ≡ grafted_in self.old.proof step (mean new.value (line_of self.old.versions true))) }
         ensures err { OnErr result (self.new ≡ self.old) }
         ensures marks { KeepsMarks self.old.versions self.new.versions }
+        ensures begun { BeginsAlike self.old.versions self.new.versions }
         ensures cost { steps.new ≤ steps.old + depth_at self.old.proof.plain step }
     {
         let drafts = self.draft_roots.len();

@@ -1,1 +1,3 @@
+pub mod Orders
 pub mod Lasting
+pub mod Courses

@@ -1,7 +1,7 @@
 -- A history: lists of versions, and the lists of proofs for which they stand.
-use Rattle.std.specs.Prelude.{◌≡◌, ℕ, Bool, true, false, List, [], ◌∷◌, ◌++◌, map, All}
+use Rattle.std.specs.Prelude.{◌≡◌, ℕ, ◌≤◌, Bool, true, false, List, [], ◌∷◌, ◌++◌, map, All}
 use Rattle.mm_plain.specs.Shape.{Proof}
-use Rattle.mm_tree.specs.Versions.{Versions, IsAlive, HasNoDrafts, is_draft, named}
+use Rattle.mm_tree.specs.Versions.{Versions, IsAlive, is_draft, named}
 use Rattle.mm_tree.specs.declared.tree.Mark.{Mark}
 
 -- the versions before, the oldest first; those that were undone, the one undone last first; and how many are kept
@@ -20,16 +20,43 @@ pub record Lists : Type 0 where
 abbrev pub lists_of : Versions → Marks → Lists
 lists_of v h = record { past = map (named v) h.past; future = map (named v) h.future; depth = h.depth }
 
+-- where a settled version stands among those of a tree: the number of its root, and how many bindings it has
+pub record Place : Type 0 where
+  pub root : ℕ
+  pub bindings : ℕ
+
+abbrev pub place_of : Mark → Place
+place_of m = record { root = m.root; bindings = m.length }
+
+-- the version at which the drafts begin: the one in hand where there are none
+abbrev pub begun_at : Versions → Place
+begun_at v = record { root = v.begun_root; bindings = v.begun_length }
+
+abbrev pub IsNoLater : Place → Place → Type 0
+IsNoLater a b = (a.root ≤ b.root) × (a.bindings ≤ b.bindings)
+
+-- each is no later than the next
+abbrev pub AreInOrder : List Place → Type 0
+AreInOrder [] = Unit
+AreInOrder (a ∷ []) = Unit
+AreInOrder (a ∷ b ∷ ps) = IsNoLater a b × AreInOrder (b ∷ ps)
+
 -- a mark of a settled version that is alive
 pub record IsLasting (v : Versions) (m : Mark) : Type 0 where
   pub settled : is_draft m ≡ false
   pub alive : IsAlive v m
 
--- the tree has no drafts, and the marks are alive in it
-pub record Holds (v : Versions) (h : Marks) : Type 0 where
-  pub no_drafts : HasNoDrafts v
+-- The marks are of settled versions of the tree and alive; and the past, the version at which the drafts begin and the future
+-- are in the order in which the versions became lasting.
+pub record IsHistoryOf (v : Versions) (h : Marks) : Type 0 where
   pub past : All (IsLasting v) h.past
   pub future : All (IsLasting v) h.future
+  pub order : AreInOrder (map place_of h.past ++ begun_at v ∷ map place_of h.future)
+
+-- the mark of the version at which the drafts begin
+pub record IsBegun (v : Versions) (m : Mark) : Type 0 where
+  pub lasting : IsLasting v m
+  pub place : place_of m ≡ begun_at v
 
 -- one step back: the last proof of the past is now the proof in hand, and the one in hand is the first of the future; or there was none
 abbrev pub IsUndone : Bool → Lists → Lists → Proof → Proof → Type 0

@@ -1,8 +1,9 @@
 //! Past and future versions of a proof.
 
-ghost use Rattle.std.specs.Prelude.{◌≡◌, ◌≤◌, [], ◌∷◌, ◌++◌, IfOk, OnOk, OnErr, length};
+ghost use Rattle.std.specs.Prelude.{◌≡◌, [], ◌∷◌, ◌++◌, false, IfOk, OnOk, OnErr, length, map};
 ghost use Rattle.circular_buffer.specs.Buffer.{keep_last};
-ghost use Rattle.mm_undo.specs.Histories.{Holds, IsRedone, IsUndone, lists_of};
+ghost use Rattle.mm_tree.specs.Versions.{HasNoDrafts, Versions, named};
+ghost use Rattle.mm_undo.specs.Histories.{IsBegun, IsHistoryOf, IsRedone, IsUndone, lists_of};
 
 use circular_buffer::HeapCircularBuffer;
 use mm_tree::{Mark, Tree};
@@ -11,6 +12,9 @@ use std::marker::Model;
 
 /// The versions of a proof before its edits, the oldest first, and those that were undone, the one undone last first; and how
 /// many are kept. Both stand in rings whose room is taken by `new` and `set_depth`, so no other call takes memory.
+///
+/// Who holds a history with its tree keeps `IsHistoryOf` (`specs/Histories.antt`): `new`, `undo`, `redo`, `accept` and
+/// `set_depth` say so, and an edit of the tree that keeps its marks does (`proofs/Lasting.antt`, `held-edited`).
 #[derive(Drop)]
 pub struct History {
     past: HeapCircularBuffer<Mark>,
@@ -32,7 +36,8 @@ impl Model for History {
 impl History {
     /// A history without versions.
     pub fn new(alloc: Global, depth: u32) -> Result<History, AllocError>
-        ensures { IfOk result (λ h. h ≡ record { past = []; future = []; depth = depth }) }
+        ensures empty { IfOk result (λ h. h ≡ record { past = []; future = []; depth = depth }) }
+        ensures held { IfOk result (λ h. (v : Versions) → IsHistoryOf v h) }
     {
         let past = HeapCircularBuffer::with_capacity(alloc, depth as usize)?;
         let future = HeapCircularBuffer::with_capacity(alloc, depth as usize)?;
@@ -43,21 +48,61 @@ impl History {
         })
     }
 
+    /// How many versions can be undone.
+    pub fn past_count(&self) -> usize
+        ensures { result ≡ length self.now.past }
+    {
+        self.past.len()
+    }
+
+    /// How many versions can be done again.
+    pub fn future_count(&self) -> usize
+        ensures { result ≡ length self.now.future }
+    {
+        self.future.len()
+    }
+
+    /// How many versions are kept.
+    pub fn depth(&self) -> u32
+        ensures { result ≡ self.now.depth }
+    {
+        self.depth
+    }
+
     /// Keeps the version before an edit. The oldest version is dropped where there are too many, and nothing is left to redo.
     pub fn keep(&mut self, m: Mark)
         ensures past { self.new.past ≡ keep_last self.old.depth (self.old.past ++ m ∷ []) }
         ensures future { self.new.future ≡ [] }
         ensures depth { self.new.depth ≡ self.old.depth }
+        ensures held { (v : Versions) → IsHistoryOf v self.old → IsBegun v m → IsHistoryOf v self.new }
     {
         self.future.clear();
         let _ = self.past.push_back(m);
     }
 
+    /// Keeps the version before an edit, at which the drafts begin, and makes the edit lasting.
+    pub fn accept(&mut self, tree: &mut Tree, m: Mark)
+        requires held { IsHistoryOf tree.old.versions self.old }
+        requires begun { IsBegun tree.old.versions m }
+        ensures past { map (named tree.new.versions) self.new.past ≡ keep_last self.old.depth (map (named tree.old.versions) self.old.past ++ named tree.old.versions m ∷ []) }
+        ensures future { self.new.future ≡ [] }
+        ensures depth { self.new.depth ≡ self.old.depth }
+        ensures proof { tree.new.proof ≡ tree.old.proof }
+        ensures held { IsHistoryOf tree.new.versions self.new }
+        ensures settled { HasNoDrafts tree.new.versions }
+    {
+        self.keep(m);
+        tree.settle();
+    }
+
     /// Goes back to the last version before this one; `false` where there is none.
     pub fn undo(&mut self, tree: &mut Tree) -> bool
-        requires { Holds tree.old.versions self.old }
+        requires held { IsHistoryOf tree.old.versions self.old }
+        requires settled { HasNoDrafts tree.old.versions }
         ensures undone { IsUndone result (lists_of tree.old.versions self.old) (lists_of tree.new.versions self.new) tree.old.proof tree.new.proof }
-        ensures held { Holds tree.new.versions self.new }
+        ensures none { result ≡ false → (self.new ≡ self.old) × (tree.new ≡ tree.old) }
+        ensures held { IsHistoryOf tree.new.versions self.new }
+        ensures settled { HasNoDrafts tree.new.versions }
     {
         match self.past.pop_back() {
             None => false,
@@ -72,9 +117,12 @@ impl History {
 
     /// Goes forward to the version that was undone last; `false` where there is none.
     pub fn redo(&mut self, tree: &mut Tree) -> bool
-        requires { Holds tree.old.versions self.old }
+        requires held { IsHistoryOf tree.old.versions self.old }
+        requires settled { HasNoDrafts tree.old.versions }
         ensures redone { IsRedone result (lists_of tree.old.versions self.old) (lists_of tree.new.versions self.new) tree.old.proof tree.new.proof }
-        ensures held { Holds tree.new.versions self.new }
+        ensures none { result ≡ false → (self.new ≡ self.old) × (tree.new ≡ tree.old) }
+        ensures held { IsHistoryOf tree.new.versions self.new }
+        ensures settled { HasNoDrafts tree.new.versions }
     {
         match self.future.pop_front() {
             None => false,
@@ -91,11 +139,13 @@ impl History {
     pub fn set_depth(&mut self, alloc: Global, n: u32) -> Result<(), AllocError>
         ensures ok { OnOk result (self.new ≡ record { past = keep_last n self.old.past; future = []; depth = n }) }
         ensures err { OnErr result (self.new ≡ self.old) }
+        ensures held { (v : Versions) → IsHistoryOf v self.old → IsHistoryOf v self.new }
     {
         let mut past = HeapCircularBuffer::with_capacity(alloc, n as usize)?;
         let future = HeapCircularBuffer::with_capacity(alloc, n as usize)?;
-        let kept = self.past.to_vec(alloc)?;
-        past.extend_from_slice(kept.as_slice());
+        let (front, back) = self.past.as_slices();
+        past.extend_from_slice(front);
+        past.extend_from_slice(back);
         self.past = past;
         self.future = future;
         self.depth = n;

@@ -2,6 +2,8 @@
 #![tactic(auto)]
 
 mod history;
+mod laws;
 
 pub use history::History;
+pub use laws::{edits_keep_histories, redos_lead_forward, undos_lead_back};
 pub use std::alloc::AllocError as Memory;

@@ -8,7 +8,7 @@ use Rattle.mm_tree.specs.Trees.{State, IsWhole, versions_of}
 use Rattle.mm_tree.specs.View.{Shared, values}
 use Rattle.mm_tree.specs.declared.timed.TimedTree.{TimedTree}
 use Rattle.mm_tree.proofs.Shapes.{length-values, size_of-mean, depth_at-mean}
-use Rattle.mm_tree.proofs.Keeping.{seven, seven-same, settled, plain-settled, whole-settled, older-settled, with_root, kept-root, cut_to, plain-cut, whole-cut, kept-cut, set_to, plain-set, whole-set, kept-set, settled-mark, values-take, values-append, values-moved, pairs-moved}
+use Rattle.mm_tree.proofs.Keeping.{seven, seven-same, settled, plain-settled, whole-settled, older-settled, with_root, kept-root, cut_to, plain-cut, whole-cut, kept-cut, draft-mark, hand-cut, length-cut, set_to, plain-set, whole-set, kept-set, settled-mark, values-take, values-append, values-moved, pairs-moved}
 use Rattle.mm_tree.proofs.Made.{more-plain, more-whole}
 use Rattle.mm_tree.proofs.tree.Tree.back_to_draft.Goals as goal
 
@@ -45,3 +45,15 @@ returns-clause-marks c =
     let a : IsAlive v c.args.m = subst (λ (s : State). IsAlive s.versions c.args.m) (sym c.self.view_is) c.requires.alive in
     subst (λ (s : State). KeepsUpTo c.args.m s.versions (seven (values c.self.inside.roots.items) c.self.inside.trail.items (values c.truncate.new.self.items) c.truncate-2.new.self.items c.self.inside.begun_root c.self.inside.begun_length c.self.inside.turn)) c.self.view_is
     (subst (λ (w : Versions). KeepsUpTo c.args.m v w) (sym e) (kept-cut v c.args.m c.self.inside.next c.self.invariant.whole c.requires.kind a))
+
+pub returns-clause-hand : goal.returns-clause-hand
+returns-clause-hand c =
+    let v : Versions = versions_of c.self.inside in
+    let e : seven (values c.self.inside.roots.items) c.self.inside.trail.items (values c.truncate.new.self.items) c.truncate-2.new.self.items c.self.inside.begun_root c.self.inside.begun_length c.self.inside.turn ≡ cut_to v c.args.m
+    = seven-same refl refl (ap values c.truncate.ensures.items ∙ values-take (c.args.m.root - c.self.inside.begun_root) c.self.inside.draft_roots.items) c.truncate-2.ensures.items refl refl refl in
+    let a : IsAlive v c.args.m = subst (λ (s : State). IsAlive s.versions c.args.m) (sym c.self.view_is) c.requires.alive in
+    let d = draft-mark v c.args.m c.requires.kind a in
+    (ap hand_root e ∙ hand-cut v c.args.m c.self.inside.next c.self.invariant.whole d.later_root d.root, ap hand_length e ∙ length-cut v c.args.m c.self.inside.next c.self.invariant.whole d.later_length d.long)
+
+pub returns-clause-begun : goal.returns-clause-begun
+returns-clause-begun c = (ap (λ (s : State). s.versions.begun_root) c.self.view_is, ap (λ (s : State). s.versions.begun_length) c.self.view_is)

@@ -50,3 +50,6 @@ returns-clause-marks c =
 
 pub returns-clause-settled : goal.returns-clause-settled
 returns-clause-settled c = record { no_roots = ap values c.clear.ensures.items; no_bindings = c.clear-2.ensures.items }
+
+pub returns-clause-hand : goal.returns-clause-hand
+returns-clause-hand c = (omega (arith, ap length (ap values c.clear.ensures.items)), omega (arith, ap length c.clear-2.ensures.items))

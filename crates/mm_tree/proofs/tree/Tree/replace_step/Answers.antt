@@ -105,3 +105,6 @@ returns-clause-marks g c =
     (subst (λ (x : TimedTree). IsPut x c.from.result c.args.new.value c.in_ok-root.root.value) (c.hand.ensures.node ∙ ap hand_node reserved) c.in_ok-root.ensures.meaning) in
     subst (λ (s : State). KeepsMarks s.versions (seven (values c.reserve.new.self.items) c.self.inside.trail.items (values c.push.new.self.items) c.self.inside.draft_bindings.items c.self.inside.begun_root c.self.inside.begun_length c.self.inside.turn)) c.self.view_is
     (subst (λ (u : Versions). KeepsMarks v u) (sym e) (kept-root v c.in_ok-root.root.value))
+
+pub returns-clause-begun : goal.returns-clause-begun
+returns-clause-begun g c = (ap (λ (s : State). s.versions.begun_root) c.self.view_is, ap (λ (s : State). s.versions.begun_length) c.self.view_is)

@@ -60,3 +60,18 @@ returns-clause-marks c =
 
 pub returns-clause-settled : goal.returns-clause-settled
 returns-clause-settled c = record { no_roots = ap values c.move_all.ensures.empty; no_bindings = c.move_all-2.ensures.empty }
+
+pub returns-clause-hand : goal.returns-clause-hand
+returns-clause-hand c =
+    let v : Versions = versions_of c.self.inside in
+    let turn = c.turn_after-self-inside.result in
+    let e : seven (values c.move_all.new.to.items) c.move_all-2.new.to.items (values c.move_all.new.from.items) c.move_all-2.new.from.items (c.self.inside.begun_root + c.len.result) c.length-length.result turn ≡ settled v turn
+    = seven-same (values-moved (c.self.inside.begun_root + 1) c.self.inside.roots.items c.truncate.new.self.items c.move_all.new.to.items c.self.inside.draft_roots.items c.move_all.ensures.moved c.truncate.ensures.items)
+    (pairs-moved c.self.inside.begun_length c.self.inside.trail.items c.truncate-2.new.self.items c.move_all-2.new.to.items c.self.inside.draft_bindings.items c.move_all-2.ensures.moved c.truncate-2.ensures.items)
+    (ap values c.move_all.ensures.empty) c.move_all-2.ensures.empty
+    (let z : c.self.inside.begun_root + c.len.result ≡ c.self.inside.begun_root + length (values c.self.inside.draft_roots.items) = omega (arith, c.len.ensures, length-values c.self.inside.draft_roots.items, c.self.inside.draft_roots.ok.0) in z)
+    (c.length-length.ensures.hand ∙ sym (ap (λ (s : State). hand_length s.versions) c.self.view_is)) refl in
+    (ap hand_root e ∙ more-none (hand_root v) ∙ ap (λ (s : State). hand_root s.versions) c.self.view_is, ap hand_length e ∙ more-none (hand_length v) ∙ ap (λ (s : State). hand_length s.versions) c.self.view_is)
+  where
+    more-none : (n : ℕ) → n + 0 ≡ n
+    more-none n = omega arith
