@@ -71,7 +71,7 @@ IsPart p = IsGap p.0 × IsWordBy p.1
 gap_space : IsGap (32 ∷ [])
 gap_space = record { some = omega arith; white = (refl, tt); blank = (refl, tt) }
 
-gap_line : IsGap (10 ∷ margin)
+pub gap_line : IsGap (10 ∷ margin)
 gap_line = record {
   some = omega arith;
   white = (refl, (refl, (refl, (refl, (refl, (refl, (refl, tt)))))));

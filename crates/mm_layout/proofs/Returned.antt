@@ -88,7 +88,7 @@ stands bytes pre gap word rest is blank some after =
       text = ap (λ n. take n (drop s bytes)) width ∙ ap (take (length word)) cut ∙ take-append_seam word rest;
     }
 
-tokens_from : (ps : Parts) (bytes pre : List ℕ) → bytes ≡ pre ++ spaced ps → AllByRecursion IsPart ps
+pub tokens_from : (ps : Parts) (bytes pre : List ℕ) → bytes ≡ pre ++ spaced ps → AllByRecursion IsPart ps
     → map (text_at bytes) (tokens_in (pieces_after bytes (length pre))) ≡ map (λ (p : List ℕ × List ℕ). p.1) ps
 tokens_from [] bytes pre is all =
     let whole : length bytes ≡ length pre + 1 = omega (arith, ap length is, length-append pre (32 ∷ [])) in

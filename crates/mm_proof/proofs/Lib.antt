@@ -21,3 +21,5 @@ pub mod Flattened
 pub mod Worded
 pub mod Wholes
 pub mod Refolded
+pub mod Reread
+pub mod Lines

@@ -21,3 +21,4 @@ pub mod Numbered
 pub mod Flattening
 pub mod Encoding
 pub mod Encodes
+pub mod Standing

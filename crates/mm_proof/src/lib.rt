@@ -29,7 +29,7 @@ pub use decoder::decode;
 pub use encoder::{compressed_len, encode_compressed, encode_normal};
 pub use extent::{MOST_TOLD, Shape};
 pub use fault::ProofFault;
-pub use laws::letters_come_back;
+pub use laws::{compressed_proofs_come_back, letters_come_back, normal_proofs_come_back};
 pub use sizing::shape;
 pub use std::alloc::AllocError as Memory;
 pub use step::{ProofStep, ProofSteps, StepKind};
