@@ -6,7 +6,7 @@ use Rattle.std.proofs.lemmas.List.Elements.{All-from_recursion, recursion_from_A
 use Rattle.mm_plain.specs.Shape.{Proof}
 use Rattle.mm_tree.specs.Versions.{Versions, IsAlive, IsKept, KeepsMarks, KeepsOlder, KeepsUpTo, HasNoDrafts, StandsAt, BeginsAlike, is_draft, named}
 use Rattle.mm_tree.specs.declared.tree.Mark.{Mark}
-use Rattle.mm_undo.specs.Histories.{Marks, Place, IsLasting, IsHistoryOf, IsBegun, IsNoLater, AreInOrder, IsUndone, IsRedone, lists_of, place_of, begun_at}
+use Rattle.mm_undo.specs.Histories.{Marks, Place, KeepsSettled, IsLasting, IsHistoryOf, IsMarkOfBeginning, IsNoLater, AreInOrder, IsUndone, IsRedone, lists_of, place_of, beginning}
 use Rattle.mm_undo.proofs.Orders.{place-by, stands, before, moved-on, pushed, cut-marks, map-newest, places_by, stepped}
 
 abbrev pub record-by : List Mark → List Mark → ℕ → Marks
@@ -56,11 +56,7 @@ none-first (x ∷ xs) e = absurd (not-none x (sym e))
 pub keep-all : {X : Type 0} (n : ℕ) (xs : List X) → length xs ≤ n → drop (length xs - n) xs ≡ xs
 keep-all n xs h = let z : length xs - n ≡ 0 = omega arith in ap (λ (k : ℕ). drop k xs) z
 
--- each mark of a settled version that is alive keeps its proof
-abbrev pub KeepsLasting : Versions → Versions → Type 0
-KeepsLasting v w = (m : Mark) → is_draft m ≡ false → IsAlive v m → IsKept v w m
-
-pub keeps-lasting : (v w : Versions) (n : Mark) → KeepsUpTo n v w → KeepsLasting v w
+pub keeps-lasting : (v w : Versions) (n : Mark) → KeepsUpTo n v w → KeepsSettled v w
 keeps-lasting v w n keeps m settled alive = keeps m (λ t. absurd (differ (sym settled ∙ t))) alive
   where
     told : Bool → Type 0
@@ -70,18 +66,18 @@ keeps-lasting v w n keeps m settled alive = keeps m (λ t. absurd (differ (sym s
     differ : false ≡ true → ⊥
     differ e = subst told e tt
 
-kept-list : (v w : Versions) (ms : List Mark) → KeepsLasting v w → ByRecursion (IsLasting v) ms → ByRecursion (IsLasting w) ms
+kept-list : (v w : Versions) (ms : List Mark) → KeepsSettled v w → ByRecursion (IsLasting v) ms → ByRecursion (IsLasting w) ms
 kept-list v w [] keeps h = tt
 kept-list v w (m ∷ ms) keeps h = (record { settled = h.0.settled; alive = (keeps m h.0.settled h.0.alive).alive }, kept-list v w ms keeps h.1)
 
-same-list : (v w : Versions) (ms : List Mark) → KeepsLasting v w → ByRecursion (IsLasting v) ms → map (named w) ms ≡ map (named v) ms
+same-list : (v w : Versions) (ms : List Mark) → KeepsSettled v w → ByRecursion (IsLasting v) ms → map (named w) ms ≡ map (named v) ms
 same-list v w [] keeps h = refl
 same-list v w (m ∷ ms) keeps h = ap (λ p. p ∷ map (named w) ms) (keeps m h.0.settled h.0.alive).same ∙ ap (λ l. named v m ∷ l) (same-list v w ms keeps h.1)
 
-pub lasting-kept : (v w : Versions) (ms : List Mark) → KeepsLasting v w → All (IsLasting v) ms → All (IsLasting w) ms
+pub lasting-kept : (v w : Versions) (ms : List Mark) → KeepsSettled v w → All (IsLasting v) ms → All (IsLasting w) ms
 lasting-kept v w ms keeps h = All-from_recursion (IsLasting w) ms (kept-list v w ms keeps (recursion_from_All (IsLasting v) ms h))
 
-pub names-kept : (v w : Versions) (ms : List Mark) → KeepsLasting v w → All (IsLasting v) ms → map (named w) ms ≡ map (named v) ms
+pub names-kept : (v w : Versions) (ms : List Mark) → KeepsSettled v w → All (IsLasting v) ms → map (named w) ms ≡ map (named v) ms
 names-kept v w ms keeps h = same-list v w ms keeps (recursion_from_All (IsLasting v) ms h)
 
 -- parts of such a list
@@ -111,8 +107,8 @@ pub record IsStep (v w : Versions) (h now : Marks) (p q : Proof) : Type 0 where
   pub settled : HasNoDrafts w
 
 pub stepped-back : (v w : Versions) (h now : Marks) (earlier later : Mark) (p q : Proof) → h.past ≡ now.past ++ earlier ∷ [] → now.future ≡ later ∷ h.future → now.depth ≡ h.depth → IsHistoryOf v h
-    → (is_draft earlier ≡ false → KeepsLasting v w × HasNoDrafts w) → IsLasting v later → named v later ≡ p → q ≡ named v earlier
-    → place_of later ≡ begun_at v → (HasNoDrafts w → place_of earlier ≡ begun_at w) → IsStep v w h now p q
+    → (is_draft earlier ≡ false → KeepsSettled v w × HasNoDrafts w) → IsLasting v later → named v later ≡ p → q ≡ named v earlier
+    → place_of later ≡ beginning v → (HasNoDrafts w → place_of earlier ≡ beginning w) → IsStep v w h now p q
 stepped-back v w h now earlier later p q past future depth holds keeps lasting is-p is-q left to =
     let parts = lasting-front v now.past (earlier ∷ []) (subst (All (IsLasting v)) past holds.past) in
     let kept = keeps (lasting-head v earlier parts.1).settled in
@@ -128,9 +124,9 @@ stepped-back v w h now earlier later p q past future depth holds keeps lasting i
       held = record {
         past = lasting-kept v w now.past kept.0 parts.0;
         future = lasting-kept v w now.future kept.0 coming;
-        order = subst AreInOrder (ap (λ (l : List Mark). places_by l (begun_at v) h.future) past
-            ∙ stepped now.past earlier (begun_at w) (begun_at v) later h.future (to kept.1) left
-            ∙ ap (λ (l : List Mark). places_by now.past (begun_at w) l) (sym future)) holds.order;
+        order = subst AreInOrder (ap (λ (l : List Mark). places_by l (beginning v) h.future) past
+            ∙ stepped now.past earlier (beginning w) (beginning v) later h.future (to kept.1) left
+            ∙ ap (λ (l : List Mark). places_by now.past (beginning w) l) (sym future)) holds.order;
       };
       settled = kept.1;
     }
@@ -142,8 +138,8 @@ pub record IsStepOn (v w : Versions) (h now : Marks) (p q : Proof) : Type 0 wher
   pub settled : HasNoDrafts w
 
 pub stepped-on : (v w : Versions) (h now : Marks) (earlier later : Mark) (p q : Proof) → h.future ≡ later ∷ now.future → now.past ≡ h.past ++ earlier ∷ [] → now.depth ≡ h.depth → IsHistoryOf v h
-    → (is_draft later ≡ false → KeepsLasting v w × HasNoDrafts w) → IsLasting v earlier → named v earlier ≡ p → q ≡ named v later
-    → place_of earlier ≡ begun_at v → (HasNoDrafts w → place_of later ≡ begun_at w) → IsStepOn v w h now p q
+    → (is_draft later ≡ false → KeepsSettled v w × HasNoDrafts w) → IsLasting v earlier → named v earlier ≡ p → q ≡ named v later
+    → place_of earlier ≡ beginning v → (HasNoDrafts w → place_of later ≡ beginning w) → IsStepOn v w h now p q
 stepped-on v w h now earlier later p q future past depth holds keeps lasting is-p is-q left to =
     let parts = lasting-front v (later ∷ []) now.future (subst (All (IsLasting v)) future holds.future) in
     let kept = keeps (lasting-head v later parts.0).settled in
@@ -159,9 +155,9 @@ stepped-on v w h now earlier later p q future past depth holds keeps lasting is-
       held = record {
         past = lasting-kept v w now.past kept.0 gone;
         future = lasting-kept v w now.future kept.0 parts.1;
-        order = subst AreInOrder (ap (λ (l : List Mark). places_by h.past (begun_at v) l) future
-            ∙ sym (stepped h.past earlier (begun_at v) (begun_at w) later now.future left (to kept.1))
-            ∙ ap (λ (l : List Mark). places_by l (begun_at w) now.future) (sym past)) holds.order;
+        order = subst AreInOrder (ap (λ (l : List Mark). places_by h.past (beginning v) l) future
+            ∙ sym (stepped h.past earlier (beginning v) (beginning w) later now.future left (to kept.1))
+            ∙ ap (λ (l : List Mark). places_by l (beginning w) now.future) (sym past)) holds.order;
       };
       settled = kept.1;
     }
@@ -178,20 +174,20 @@ pub held-newest : (v : Versions) (h : Marks) (k depth : ℕ) → IsHistoryOf v h
 held-newest v h k depth holds = record {
   past = All-drop (IsLasting v) k h.past holds.past;
   future = no-marks v;
-  order = cut-marks k h.past (begun_at v ∷ []) (moved-on (map place_of h.past) (begun_at v) (begun_at v) (map place_of h.future) holds.order (omega arith, omega arith));
+  order = cut-marks k h.past (beginning v ∷ []) (moved-on (map place_of h.past) (beginning v) (beginning v) (map place_of h.future) holds.order (omega arith, omega arith));
 }
 
 -- one more mark, of the version at which the drafts begin, and no future
-pub held-more : (v : Versions) (h : Marks) (m : Mark) (depth : ℕ) → IsHistoryOf v h → IsBegun v m → IsHistoryOf v (record-by (h.past ++ m ∷ []) [] depth)
+pub held-more : (v : Versions) (h : Marks) (m : Mark) (depth : ℕ) → IsHistoryOf v h → IsMarkOfBeginning v m → IsHistoryOf v (record-by (h.past ++ m ∷ []) [] depth)
 held-more v h m depth holds b = record {
   past = All-append (IsLasting v) h.past (m ∷ []) holds.past (lasting-one v m b.lasting);
   future = no-marks v;
-  order = subst (λ (l : List Place). AreInOrder (l ++ begun_at v ∷ [])) (ap (λ (r : Place). map place_of h.past ++ r ∷ []) (sym b.place) ∙ sym (map-append place_of h.past (m ∷ [])))
-      (pushed (map place_of h.past) (begun_at v) (begun_at v) (map place_of h.future) holds.order (omega arith, omega arith));
+  order = subst (λ (l : List Place). AreInOrder (l ++ beginning v ∷ [])) (ap (λ (r : Place). map place_of h.past ++ r ∷ []) (sym b.place) ∙ sym (map-append place_of h.past (m ∷ [])))
+      (pushed (map place_of h.past) (beginning v) (beginning v) (map place_of h.future) holds.order (omega arith, omega arith));
 }
 
 -- the drafts made lasting
-older-list : (v w : Versions) (ms : List Mark) → KeepsOlder v w → ByRecursion (IsLasting v) ms → ByRecursion (λ p. IsNoLater p (begun_at v)) (map place_of ms)
+older-list : (v w : Versions) (ms : List Mark) → KeepsOlder v w → ByRecursion (IsLasting v) ms → ByRecursion (λ p. IsNoLater p (beginning v)) (map place_of ms)
     → ByRecursion (IsLasting w) ms × (map (named w) ms ≡ map (named v) ms)
 older-list v w [] keeps h o = (tt, refl)
 older-list v w (m ∷ ms) keeps h o =
@@ -200,7 +196,7 @@ older-list v w (m ∷ ms) keeps h o =
     ((record { settled = h.0.settled; alive = k.alive }, r.0), ap (λ p. p ∷ map (named w) ms) k.same ∙ ap (λ l. named v m ∷ l) r.1)
 
 abbrev pub IsLater : Versions → Versions → Type 0
-IsLater v w = IsNoLater (begun_at v) (begun_at w)
+IsLater v w = IsNoLater (beginning v) (beginning w)
 
 pub record IsMadeLasting (v w : Versions) (h : Marks) : Type 0 where
   pub held : IsHistoryOf w h
@@ -208,12 +204,12 @@ pub record IsMadeLasting (v w : Versions) (h : Marks) : Type 0 where
 
 pub made-lasting : (v w : Versions) (h : Marks) → h.future ≡ [] → IsHistoryOf v h → KeepsOlder v w → IsLater v w → IsMadeLasting v w h
 made-lasting v w h none holds keeps later =
-    let r = older-list v w h.past keeps (recursion_from_All (IsLasting v) h.past holds.past) (before (map place_of h.past) (begun_at v) (map place_of h.future) holds.order) in
+    let r = older-list v w h.past keeps (recursion_from_All (IsLasting v) h.past holds.past) (before (map place_of h.past) (beginning v) (map place_of h.future) holds.order) in
     record {
       held = record {
         past = All-from_recursion (IsLasting w) h.past r.0;
         future = subst (All (IsLasting w)) (sym none) (no-marks w);
-        order = subst (λ (l : List Mark). AreInOrder (places_by h.past (begun_at w) l)) (sym none) (moved-on (map place_of h.past) (begun_at v) (begun_at w) (map place_of h.future) holds.order later);
+        order = subst (λ (l : List Mark). AreInOrder (places_by h.past (beginning w) l)) (sym none) (moved-on (map place_of h.past) (beginning v) (beginning w) (map place_of h.future) holds.order later);
       };
       same = r.1;
     }
@@ -224,29 +220,29 @@ newest-proofs v past m depth = map-newest (named v) depth (past ++ m ∷ [])
     ∙ ap (λ (l : List Proof). drop (length l - depth) l) (map-append (named v) past (m ∷ []))
 
 -- what edits keep
-pub begins : (v w : Versions) → BeginsAlike v w → begun_at w ≡ begun_at v
+pub begins : (v w : Versions) → BeginsAlike v w → beginning w ≡ beginning v
 begins v w b = place-by b.0 b.1
 
-pub held-kept : (v w : Versions) (h : Marks) → KeepsLasting v w → begun_at w ≡ begun_at v → IsHistoryOf v h → IsHistoryOf w h
+pub held-kept : (v w : Versions) (h : Marks) → KeepsSettled v w → beginning w ≡ beginning v → IsHistoryOf v h → IsHistoryOf w h
 held-kept v w h keeps b holds = record {
   past = lasting-kept v w h.past keeps holds.past;
   future = lasting-kept v w h.future keeps holds.future;
   order = subst (λ (p : Place). AreInOrder (places_by h.past p h.future)) (sym b) holds.order;
 }
 
-pub lists-kept : (v w : Versions) (h : Marks) → KeepsLasting v w → IsHistoryOf v h → lists_of w h ≡ lists_of v h
+pub lists-kept : (v w : Versions) (h : Marks) → KeepsSettled v w → IsHistoryOf v h → lists_of w h ≡ lists_of v h
 lists-kept v w h keeps holds = λ i. record { past = names-kept v w h.past keeps holds.past i; future = names-kept v w h.future keeps holds.future i; depth = h.depth }
 
-pub keeps-edited : (v w : Versions) → KeepsMarks v w → KeepsLasting v w
+pub keeps-edited : (v w : Versions) → KeepsMarks v w → KeepsSettled v w
 keeps-edited v w keeps m settled alive = keeps m alive
 
-pub begun-kept : (v w : Versions) (m : Mark) → KeepsLasting v w → begun_at w ≡ begun_at v → IsBegun v m → IsBegun w m
+pub begun-kept : (v w : Versions) (m : Mark) → KeepsSettled v w → beginning w ≡ beginning v → IsMarkOfBeginning v m → IsMarkOfBeginning w m
 begun-kept v w m keeps b h = record {
   lasting = record { settled = h.lasting.settled; alive = (keeps m h.lasting.settled h.lasting.alive).alive };
   place = h.place ∙ sym b;
 }
 
-pub begun-marked : (v : Versions) (m : Mark) → HasNoDrafts v → is_draft m ≡ false → IsAlive v m → StandsAt v m.root m.length → IsBegun v m
+pub begun-marked : (v : Versions) (m : Mark) → HasNoDrafts v → is_draft m ≡ false → IsAlive v m → StandsAt v m.root m.length → IsMarkOfBeginning v m
 begun-marked v m none settled alive at = record { lasting = record { settled = settled; alive = alive }; place = stands v m none at }
 
 pub marks-by : {past past' future future' : List Mark} {depth depth' : ℕ} → past ≡ past' → future ≡ future' → depth ≡ depth'

@@ -1,3 +1,3 @@
 pub mod Orders
 pub mod Lasting
-pub mod Courses
+pub mod Timelines

@@ -4,7 +4,7 @@ use Rattle.std.proofs.lemmas.List.{append_assoc, map-append, drop-map, length-ma
 use Rattle.std.specs.List.{AllByRecursion as ByRecursion}
 use Rattle.mm_tree.specs.Versions.{Versions, HasNoDrafts, StandsAt}
 use Rattle.mm_tree.specs.declared.tree.Mark.{Mark}
-use Rattle.mm_undo.specs.Histories.{Place, place_of, begun_at, IsNoLater, AreInOrder}
+use Rattle.mm_undo.specs.Histories.{Place, place_of, beginning, IsNoLater, AreInOrder}
 
 abbrev pub place-at : ℕ → ℕ → Place
 place-at r b = record { root = r; bindings = b }
@@ -13,7 +13,7 @@ pub place-by : {r r' b b' : ℕ} → r ≡ r' → b ≡ b' → place-at r b ≡ 
 place-by x y = λ i. place-at (x i) (y i)
 
 -- a mark of the version in hand, where there are no drafts
-pub stands : (v : Versions) (m : Mark) → HasNoDrafts v → StandsAt v m.root m.length → place_of m ≡ begun_at v
+pub stands : (v : Versions) (m : Mark) → HasNoDrafts v → StandsAt v m.root m.length → place_of m ≡ beginning v
 stands v m none at = place-by (omega (arith, at.0, ap length none.no_roots)) (omega (arith, at.1, ap length none.no_bindings))
 
 no-later-trans : (a b c : Place) → IsNoLater a b → IsNoLater b c → IsNoLater a c

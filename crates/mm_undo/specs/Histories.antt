@@ -1,7 +1,7 @@
 -- A history: lists of versions, and the lists of proofs for which they stand.
 use Rattle.std.specs.Prelude.{◌≡◌, ℕ, ◌≤◌, Bool, true, false, List, [], ◌∷◌, ◌++◌, map, All}
 use Rattle.mm_plain.specs.Shape.{Proof}
-use Rattle.mm_tree.specs.Versions.{Versions, IsAlive, is_draft, named}
+use Rattle.mm_tree.specs.Versions.{Versions, IsAlive, IsKept, is_draft, named}
 use Rattle.mm_tree.specs.declared.tree.Mark.{Mark}
 
 -- the versions before, the oldest first; those that were undone, the one undone last first; and how many are kept
@@ -28,9 +28,9 @@ pub record Place : Type 0 where
 abbrev pub place_of : Mark → Place
 place_of m = record { root = m.root; bindings = m.length }
 
--- the version at which the drafts begin: the one in hand where there are none
-abbrev pub begun_at : Versions → Place
-begun_at v = record { root = v.begun_root; bindings = v.begun_length }
+-- the settled version at which the drafts begin: the one in hand where there are none
+abbrev pub beginning : Versions → Place
+beginning v = record { root = v.begun_root; bindings = v.begun_length }
 
 abbrev pub IsNoLater : Place → Place → Type 0
 IsNoLater a b = (a.root ≤ b.root) × (a.bindings ≤ b.bindings)
@@ -46,17 +46,21 @@ pub record IsLasting (v : Versions) (m : Mark) : Type 0 where
   pub settled : is_draft m ≡ false
   pub alive : IsAlive v m
 
+-- each mark of a settled version keeps its proof
+abbrev pub KeepsSettled : Versions → Versions → Type 0
+KeepsSettled v w = (m : Mark) → is_draft m ≡ false → IsAlive v m → IsKept v w m
+
 -- The marks are of settled versions of the tree and alive; and the past, the version at which the drafts begin and the future
 -- are in the order in which the versions became lasting.
 pub record IsHistoryOf (v : Versions) (h : Marks) : Type 0 where
   pub past : All (IsLasting v) h.past
   pub future : All (IsLasting v) h.future
-  pub order : AreInOrder (map place_of h.past ++ begun_at v ∷ map place_of h.future)
+  pub order : AreInOrder (map place_of h.past ++ beginning v ∷ map place_of h.future)
 
--- the mark of the version at which the drafts begin
-pub record IsBegun (v : Versions) (m : Mark) : Type 0 where
+-- a mark of the version at which the drafts begin
+pub record IsMarkOfBeginning (v : Versions) (m : Mark) : Type 0 where
   pub lasting : IsLasting v m
-  pub place : place_of m ≡ begun_at v
+  pub place : place_of m ≡ beginning v
 
 -- one step back: the last proof of the past is now the proof in hand, and the one in hand is the first of the future; or there was none
 abbrev pub IsUndone : Bool → Lists → Lists → Proof → Proof → Type 0

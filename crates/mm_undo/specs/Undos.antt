@@ -4,29 +4,29 @@ use Rattle.mm_plain.specs.Shape.{Proof}
 use Rattle.mm_undo.specs.Histories.{Lists}
 
 -- the past, the proof in hand and the future
-pub record Course : Type 0 where
+pub record Timeline : Type 0 where
   pub past : List Proof
   pub proof : Proof
   pub future : List Proof
 
-abbrev pub course_of : Lists → Proof → Course
-course_of l p = record { past = l.past; proof = p; future = l.future }
+abbrev pub timeline_of : Lists → Proof → Timeline
+timeline_of l p = record { past = l.past; proof = p; future = l.future }
 
 -- all of them, the oldest first
-abbrev pub all_of : Course → List Proof
-all_of c = c.past ++ c.proof ∷ c.future
+abbrev pub all_of : Timeline → List Proof
+all_of t = t.past ++ t.proof ∷ t.future
 
 -- the same proofs, with the one in hand that has n before it
-abbrev pub moved_to : ℕ → Course → Course
-moved_to n c = record { past = take n (all_of c); proof = get_or (all_of c) n c.proof; future = drop (n + 1) (all_of c) }
+abbrev pub moved_to : ℕ → Timeline → Timeline
+moved_to n t = record { past = take n (all_of t); proof = get_or (all_of t) n t.proof; future = drop (n + 1) (all_of t) }
 
 -- after k steps back
-abbrev pub undone : ℕ → Course → Course
-undone k c = moved_to (length c.past - k) c
+abbrev pub undone : ℕ → Timeline → Timeline
+undone k t = moved_to (length t.past - k) t
 
 -- after k steps forward
-abbrev pub redone : ℕ → Course → Course
-redone k c = moved_to (length c.past + k) c
+abbrev pub redone : ℕ → Timeline → Timeline
+redone k t = moved_to (length t.past + k) t
 
 -- the k-th proof of a list, counted from the newest, which is the first
 abbrev pub newest : ℕ → List Proof → Proof → Proof

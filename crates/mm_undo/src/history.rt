@@ -3,7 +3,7 @@
 ghost use Rattle.std.specs.Prelude.{◌≡◌, [], ◌∷◌, ◌++◌, false, IfOk, OnOk, OnErr, length, map};
 ghost use Rattle.circular_buffer.specs.Buffer.{keep_last};
 ghost use Rattle.mm_tree.specs.Versions.{HasNoDrafts, Versions, named};
-ghost use Rattle.mm_undo.specs.Histories.{IsBegun, IsHistoryOf, IsRedone, IsUndone, lists_of};
+ghost use Rattle.mm_undo.specs.Histories.{IsMarkOfBeginning, IsHistoryOf, IsRedone, IsUndone, lists_of};
 
 use circular_buffer::HeapCircularBuffer;
 use mm_tree::{Mark, Tree};
@@ -13,8 +13,8 @@ use std::marker::Model;
 /// The versions of a proof before its edits, the oldest first, and those that were undone, the one undone last first; and how
 /// many are kept. Both stand in rings whose room is taken by `new` and `set_depth`, so no other call takes memory.
 ///
-/// Who holds a history with its tree keeps `IsHistoryOf` (`specs/Histories.antt`): `new`, `undo`, `redo`, `accept` and
-/// `set_depth` say so, and an edit of the tree that keeps its marks does (`proofs/Lasting.antt`, `held-edited`).
+/// Who holds a history with its tree keeps `IsHistoryOf` (`specs/Histories.antt`) between commands: each call here keeps it, and
+/// so does each edit of the tree, as `edits_keep_histories` says.
 #[derive(Drop)]
 pub struct History {
     past: HeapCircularBuffer<Mark>,
@@ -74,16 +74,16 @@ impl History {
         ensures past { self.new.past ≡ keep_last self.old.depth (self.old.past ++ m ∷ []) }
         ensures future { self.new.future ≡ [] }
         ensures depth { self.new.depth ≡ self.old.depth }
-        ensures held { (v : Versions) → IsHistoryOf v self.old → IsBegun v m → IsHistoryOf v self.new }
+        ensures held { (v : Versions) → IsHistoryOf v self.old → IsMarkOfBeginning v m → IsHistoryOf v self.new }
     {
         self.future.clear();
         let _ = self.past.push_back(m);
     }
 
-    /// Keeps the version before an edit, at which the drafts begin, and makes the edit lasting.
+    /// Keeps the version before an edit, at which the drafts begin, and makes the edit lasting: `keep`, and then `settle`.
     pub fn accept(&mut self, tree: &mut Tree, m: Mark)
         requires held { IsHistoryOf tree.old.versions self.old }
-        requires begun { IsBegun tree.old.versions m }
+        requires begun { IsMarkOfBeginning tree.old.versions m }
         ensures past { map (named tree.new.versions) self.new.past ≡ keep_last self.old.depth (map (named tree.old.versions) self.old.past ++ named tree.old.versions m ∷ []) }
         ensures future { self.new.future ≡ [] }
         ensures depth { self.new.depth ≡ self.old.depth }

@@ -1,4 +1,4 @@
-use Rattle.mm_undo.proofs.Courses.{none-redone, redone-more, left-redone}
+use Rattle.mm_undo.proofs.Timelines.{none-redone, redone-more, left-redone}
 use Rattle.mm_undo.proofs.laws.redos_lead_forward.Goals as goal
 
 pub returns-clause-none : goal.returns-clause-none

@@ -1,4 +1,4 @@
-use Rattle.mm_undo.proofs.Courses.{none-undone, undone-more, left-undone, ahead-undone, newest-undone, redone-undone}
+use Rattle.mm_undo.proofs.Timelines.{none-undone, undone-more, left-undone, ahead-undone, newest-undone, redone-undone}
 use Rattle.mm_undo.proofs.laws.undos_lead_back.Goals as goal
 
 pub returns-clause-none : goal.returns-clause-none
