@@ -4,6 +4,7 @@ use mm_scope::{Database, StmtId};
 use mm_subst::{ParseFault, WStr, WSym, parse};
 use mm_tables::Pair;
 use mm_tokens::{Span, Token, tokens};
+use mm_unify::{Ended, Rule, unifiers};
 use std::alloc::Global;
 use std::test::Fail;
 
@@ -67,6 +68,22 @@ fn is_refused(
     }
 }
 
+/// How many unifiers two strings of the database have, and how the search ended.
+fn listed(
+    alloc: Global,
+    left: &[WSym],
+    right: &[WSym],
+    brackets: bool,
+    trials: u32,
+) -> Result<(usize, Ended), Fail> {
+    let database = read(alloc, NESTED)?;
+    let left = WStr::new(alloc, left)?;
+    let right = WStr::new(alloc, right)?;
+    let rule = Rule { brackets };
+    let listing = unifiers(alloc, &database, &left, &right, rule, Some(trials))?;
+    Ok((listing.found.len(), listing.ended))
+}
+
 fn pair(first: u32, second: u32) -> Pair {
     Pair { first, second }
 }
@@ -121,5 +138,19 @@ fn strings_are_parsed(rt: HostRuntime) -> Result<(), Fail> {
     assert!(rt; is_refused(alloc, &database, 5, b"|- $4", ParseFault::BadSymbol(2))?);
     assert!(rt; is_refused(alloc, &database, 5, b"$01 |- u", ParseFault::BadSymbol(1))?);
     assert!(rt; is_refused(alloc, &database, 5, b" \t\n", ParseFault::Empty)?);
+    Ok(())
+}
+
+#[test]
+fn unifiers_are_listed(rt: HostRuntime) -> Result<(), Fail> {
+    let (wff, one, two) = (WSym::Const(0), WSym::Work(1), WSym::Work(2));
+    let (x, y) = (WSym::Var(2), WSym::Var(3));
+    // A value in two parts, in 13 trials; and without end, `$1 x` with `x $1`.
+    let (parts, ended) = listed(rt.alloc(), &[wff, x, x, y], &[wff, one, two], true, 13)?;
+    assert_eq!(rt; parts, 2);
+    assert_eq!(rt; ended, Ended::Whole);
+    let (many, ended) = listed(rt.alloc(), &[one, x], &[x, one], true, 50)?;
+    assert_eq!(rt; many, 25);
+    assert_eq!(rt; ended, Ended::Trials);
     Ok(())
 }
