@@ -1,5 +1,5 @@
 -- One more binding binds the tree of a version.
-use Rattle.std.proofs.Common.{zero, suc, ◌≡◌, ℕ, ◌+◌, ◌-◌, ◌≤◌, max, Bool, true, false, List, [], ◌∷◌, ◌++◌, map, drop, length, refl, sym, ◌∙◌, ap, subst, arith, if◌then◌else◌, get_or, take, Option, None, Some, ◌<◌}
+use Rattle.std.proofs.Common.{zero, suc, ◌≡◌, ℕ, ◌+◌, ◌-◌, ◌≤◌, Bool, true, false, List, [], ◌∷◌, ◌++◌, map, drop, length, refl, sym, ◌∙◌, ap, arith, if◌then◌else◌, get_or, take, None, Some, ◌<◌}
 use Rattle.mm_subst.specs.declared.symbol.WSym.{WSym}
 use Rattle.mm_subst.specs.Substitutions.{Pairs, applied, with_values}
 use Rattle.mm_subst.specs.Symbols.{has_work, is_same}
@@ -15,9 +15,7 @@ use Rattle.mm_plain.specs.Binding.{bound, HasWorkKeys}
 use Rattle.mm_plain.proofs.Binding.{bound-unknown, bound-known}
 use Rattle.mm_plain.proofs.Works.{applied-plain}
 use Rattle.mm_tree.specs.Lines.{Line, after, string_now, values_now}
-use Rattle.mm_tree.specs.Meanings.{mean, means, mean-unknown, mean-known, text_now, sigma_now, unknown_timed, known_timed, youngest}
-use Rattle.mm_tree.specs.declared.timed.Text.{Text}
-use Rattle.mm_tree.specs.declared.timed.Values.{Values}
+use Rattle.mm_tree.specs.Meanings.{mean, means, mean-unknown, mean-known, text_now, sigma_now, youngest}
 use Rattle.mm_tree.specs.declared.timed.TimedTree.{TimedTree}
 use Rattle.mm_tree.proofs.Shapes.{EachTimed, by_timed, youngest-unknown, youngest-known}
 

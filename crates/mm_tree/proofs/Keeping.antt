@@ -1,5 +1,5 @@
 -- What each change of the versions keeps.
-use Rattle.std.proofs.Common.{zero, suc, ◌≡◌, ◌==◌, ℕ, ◌+◌, ◌-◌, ◌≤◌, ◌<◌, Bool, true, false, not, List, [], ◌∷◌, ◌++◌, map, take, drop, length, get_or, refl, sym, ◌∙◌, ap, subst, arith, length-append, inl, inr, Option, Some, None, is_none}
+use Rattle.std.proofs.Common.{zero, suc, ◌≡◌, ◌==◌, ℕ, ◌+◌, ◌-◌, ◌≤◌, ◌<◌, Bool, true, false, not, List, [], ◌∷◌, ◌++◌, take, length, get_or, refl, sym, ◌∙◌, ap, subst, arith, length-append, inl, inr, Option, Some, None, is_none}
 use Rattle.std.proofs.lemmas.Grind.{common_steps}
 use Rattle.std.proofs.lemmas.Bool.{false≢true, eqb-true, eq-eqb, cases_lt}
 use Rattle.std.proofs.lemmas.Bool.Decides.{eqb_tells}
@@ -10,7 +10,7 @@ use Rattle.mm_subst.specs.Substitutions.{Pairs}
 use Rattle.mm_plain.specs.declared.plain.Plain.{Plain}
 use Rattle.mm_plain.specs.Shape.{Proof}
 use Rattle.mm_tree.specs.Lines.{Line}
-use Rattle.mm_tree.specs.Meanings.{mean, youngest}
+use Rattle.mm_tree.specs.Meanings.{mean}
 use Rattle.mm_tree.specs.Versions.{Versions, is_draft, roots_of, line_of, node_of, no_node, hand_root, hand_length, hand_node, hand_plain, named, IsSound, IsAlive, IsKept, KeepsMarks, KeepsOlder, KeepsUpTo, HasNoDrafts}
 use Rattle.mm_tree.specs.Trees.{IsWhole, State, state_by}
 use Rattle.mm_tree.specs.View.{Shared, values}

@@ -1,12 +1,11 @@
 -- The children of a node, one after the other.
-use Rattle.std.proofs.Common.{◌≡◌, ℕ, ◌+◌, ◌-◌, ◌≤◌, ◌<◌, max, Bool, cond, not, is_none, ◌||◌, List, [], ◌∷◌, ◌++◌, map, take, drop, length, get_or, Option, None, Some, refl, sym, ◌∙◌, ap, subst, arith, append_assoc}
+use Rattle.std.proofs.Common.{◌≡◌, ℕ, ◌+◌, ◌-◌, ◌≤◌, ◌<◌, Bool, cond, not, is_none, ◌||◌, List, [], ◌∷◌, ◌++◌, map, take, drop, length, get_or, Option, None, Some, refl, sym, ◌∙◌, ap, arith, append_assoc}
 use Rattle.std.specs.List.{sum_by, flat_map, list_any}
 use Rattle.std.proofs.lemmas.List.{at_drop_more, at_drop_all, get_or-map}
 use Rattle.std.proofs.lemmas.List.Sums.{sum_by-cons, sum_by-append, sum_by_more}
-use Rattle.mm_subst.specs.declared.symbol.WSym.{WSym}
 use Rattle.mm_subst.specs.Symbols.{has_work, is_same}
 use Rattle.mm_plain.specs.declared.plain.Plain.{Plain}
-use Rattle.mm_plain.specs.Shape.{known, unknown, size_of, height_of, greatest, seat, target_of}
+use Rattle.mm_plain.specs.Shape.{known, unknown, size_of, greatest, seat, target_of}
 use Rattle.mm_plain.specs.Sources.{label_of, is_pending}
 use Rattle.mm_subst.specs.Substitutions.{applied}
 use Rattle.mm_subst.specs.Statements.{statement_of}
@@ -18,7 +17,7 @@ use Rattle.mm_plain.proofs.Sizes.{height-le-size}
 use Rattle.mm_plain.proofs.Trees.{seat-here, seat-later}
 use Rattle.mm_plain.proofs.Walks.{unknowns-below, labels_in-unknown, flat_map-more}
 use Rattle.mm_tree.specs.Lines.{Line}
-use Rattle.mm_tree.specs.Meanings.{mean, means, mean-unknown, mean-known, text_now, sigma_now, unknown_timed, known_timed, count, tall, unknown_count, youngest, is_live, is_live_step, has_values_with_work}
+use Rattle.mm_tree.specs.Meanings.{mean, means, mean-unknown, mean-known, text_now, sigma_now, unknown_timed, known_timed, count, tall, unknown_count, is_live, is_live_step, has_values_with_work}
 use Rattle.mm_tree.specs.View.{Shared, values, counts}
 use Rattle.mm_tree.specs.declared.timed.Text.{Text}
 use Rattle.mm_tree.specs.declared.timed.Values.{Values}

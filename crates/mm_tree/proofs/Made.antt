@@ -1,22 +1,24 @@
 -- The version in hand, and what each call makes of it.
-use Rattle.std.proofs.Common.{◌≡◌, ℕ, ◌+◌, ◌-◌, ◌≤◌, ◌<◌, max, true, List, [], ◌∷◌, ◌++◌, map, length, refl, sym, ◌∙◌, ap, subst, arith, length-append, Result, Ok, Err, IfOk, OnOk}
+use Rattle.std.proofs.Common.{◌≡◌, ℕ, ◌≤◌, true, List, [], ◌∷◌, map, length, refl, sym, ◌∙◌, ap, subst, arith, length-append, Result, Ok, Err, IfOk, OnOk}
 use Rattle.std.specs.List.{sum_by}
 use Rattle.std.proofs.lemmas.List.Sums.{sum_by-cons}
 use Rattle.mm_subst.specs.declared.symbol.WSym.{WSym}
 use Rattle.mm_subst.specs.Substitutions.{Pairs, applied}
 use Rattle.mm_plain.specs.declared.plain.Plain.{Plain}
-use Rattle.mm_plain.specs.Shape.{Proof, unknown, known, unknowns, size_of, height_of, greatest, put}
+use Rattle.mm_plain.specs.Shape.{unknown, known, unknowns, size_of, height_of, greatest, put, step_at}
+use Rattle.mm_plain.specs.Numbers.{HasOwnLabels, IsOwnLabel}
+use Rattle.mm_plain.specs.Sources.{label_of}
+use Rattle.mm_plain.proofs.Parts.{each-part}
 use Rattle.mm_plain.specs.Valid.{most_steps, most_levels}
-use Rattle.mm_plain.specs.Binding.{bound, bound_in, HasWorkKeys}
+use Rattle.mm_plain.specs.Binding.{bound, HasWorkKeys}
 use Rattle.mm_tree.specs.Lines.{Line}
-use Rattle.mm_tree.specs.Meanings.{mean, means, mean-unknown, mean-known, text_now, sigma_now, unknown_timed, known_timed, count, tall, youngest}
+use Rattle.mm_tree.specs.Meanings.{mean, means, mean-unknown, mean-known, text_now, unknown_timed, count, youngest}
 use Rattle.mm_tree.specs.Falls.{count-unknown}
 use Rattle.mm_tree.specs.Paths.{IsPut}
 use Rattle.mm_tree.specs.Placed.{unknowns_timed, placed_timed}
 use Rattle.mm_tree.specs.Versions.{Versions, line_of, hand_node, hand_length, hand_plain, IsSound}
 use Rattle.mm_tree.specs.Trees.{State, state_by, IsWhole}
 use Rattle.mm_tree.specs.declared.timed.Text.{Text}
-use Rattle.mm_tree.specs.declared.timed.Values.{Values}
 use Rattle.mm_tree.specs.declared.timed.TimedTree.{TimedTree}
 use Rattle.mm_tree.proofs.Shapes.{size_of-mean, height_of-mean, youngest-unknown, youngest-known, tall-unknown}
 use Rattle.mm_tree.proofs.Bindings.{string-new, values-new, mean-bind}
@@ -129,3 +131,8 @@ fine-few s f = let a = f.whole.sound.few in omega (arith, a, size_of-mean (line_
 
 pub fine-low : (s : State) → IsFine s → height_of s.proof.plain ≤ 2000
 fine-low s f = let a = f.whole.sound.low in omega (arith, a, height_of-mean (line_of s.versions true) (hand_node s.versions), ap height_of f.plain)
+
+-- a step's labels are the database's own where those of the whole are
+pub own-part : (bytes : List ℕ) (x : Plain) (k : ℕ) → 1 ≤ k → k ≤ size_of x → HasOwnLabels bytes x → HasOwnLabels bytes (step_at x k)
+unfolding HasOwnLabels
+own-part bytes x k h g own = each-part (λ y. IsOwnLabel bytes (label_of y)) x k h g own

@@ -1,25 +1,23 @@
 -- A child that holds a step, and the tree that a path made anew makes.
-use Rattle.std.proofs.Common.{zero, suc, ◌≡◌, ℕ, ◌+◌, ◌-◌, ◌≤◌, ◌<◌, max, List, [], ◌∷◌, ◌++◌, map, length, get_or, set, IfOk, Result, Ok, Err, refl, sym, ◌∙◌, ap, subst, arith}
+use Rattle.std.proofs.Common.{zero, suc, ◌≡◌, ℕ, ◌+◌, ◌≤◌, ◌<◌, max, List, [], ◌∷◌, map, length, get_or, set, IfOk, Result, Ok, Err, sym, ◌∙◌, ap, subst, arith}
 use Rattle.std.specs.List.{sum_by}
 use Rattle.std.proofs.lemmas.List.Sums.{sum_by-cons}
 use Rattle.std.proofs.lemmas.List.{map-set, get_or-map}
-use Rattle.mm_subst.specs.declared.symbol.WSym.{WSym}
-use Rattle.mm_subst.specs.Substitutions.{Pairs}
 use Rattle.mm_plain.specs.declared.plain.Plain.{Plain}
 use Rattle.mm_plain.specs.Shape.{unknown, known, size_of, put, seat, step_at, depth_at, greatest}
-use Rattle.mm_plain.proofs.Equations.{size_of-known, put-unknown}
-use Rattle.mm_plain.proofs.Trees.{IsKidAt, kid-found, kid-le, seat-root, put-root, at-root, at-leaf}
+use Rattle.mm_plain.proofs.Equations.{put-unknown}
+use Rattle.mm_plain.proofs.Trees.{IsKidAt, kid-found, seat-root, put-root, at-root, at-leaf}
 use Rattle.mm_plain.proofs.Depths.{kid-depth}
 use Rattle.mm_plain.proofs.Sizes.{size-put, depth-root, depth-leaf}
 use Rattle.mm_tree.specs.Lines.{Line}
 use Rattle.mm_tree.specs.Meanings.{mean, means, mean-unknown, mean-known, text_now, sigma_now, unknown_timed, known_timed, count, youngest}
 use Rattle.mm_tree.specs.View.{Shared, values, counts}
-use Rattle.mm_tree.specs.Falls.{count-known, count-shared, count-unknown}
+use Rattle.mm_tree.specs.Falls.{count-known, count-unknown}
 use Rattle.mm_tree.specs.Paths.{IsChild, IsRoot, IsRebuilt, IsPut}
 use Rattle.mm_tree.specs.declared.timed.Text.{Text}
 use Rattle.mm_tree.specs.declared.timed.Values.{Values}
 use Rattle.mm_tree.specs.declared.timed.TimedTree.{TimedTree}
-use Rattle.mm_tree.proofs.Shapes.{size_of-mean, sizes-means, counts-values, length-means, length-values, seat-means, youngest-known, youngest-unknown}
+use Rattle.mm_tree.proofs.Shapes.{size_of-mean, sizes-means, counts-values, length-means, seat-means, youngest-known}
 
 pub kid-birth : (xs : List TimedTree) (i : ℕ) (d : TimedTree) → i < length xs → youngest (get_or xs i d) ≤ greatest (map youngest xs)
 kid-birth [] i d h = absurd (omega arith)

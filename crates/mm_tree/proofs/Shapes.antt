@@ -1,5 +1,5 @@
 -- What the bindings of a version leave as it is: the shape of a tree.
-use Rattle.std.proofs.Common.{◌≡◌, ℕ, ◌+◌, ◌≤◌, ◌<◌, max, List, [], ◌∷◌, ◌++◌, map, length, get_or, refl, sym, ◌∙◌, ap, subst, arith, zero, suc, Option, None, Some, nat_le, if◌then◌else◌, ◌-◌}
+use Rattle.std.proofs.Common.{◌≡◌, ℕ, ◌+◌, max, List, [], ◌∷◌, ◌++◌, map, length, get_or, refl, sym, ◌∙◌, ap, subst, arith, suc, Option, None, Some, nat_le, if◌then◌else◌, ◌-◌}
 use Rattle.std.specs.List.{sum_by, flat_map}
 use Rattle.std.proofs.lemmas.List.Sums.{sum_by-cons}
 use Rattle.mm_subst.specs.declared.symbol.WSym.{WSym}
@@ -9,9 +9,8 @@ use Rattle.mm_plain.specs.Shape.{unknown, known, size_of, height_of, depths_of, 
 use Rattle.mm_plain.specs.Numbers.{labels_in, unknowns_among}
 use Rattle.mm_plain.proofs.Equations.{size_of-unknown, size_of-known, height_of-unknown, height_of-known, depths_of-unknown, depths_of-known, sum_by-map, flat_map-map}
 use Rattle.mm_plain.proofs.Walks.{labels_in-unknown, labels_in-known}
-use Rattle.mm_plain.proofs.Trees.{seat-here, seat-later}
 use Rattle.mm_tree.specs.Lines.{Line}
-use Rattle.mm_tree.specs.Meanings.{mean, means, mean-unknown, mean-known, map-map, text_now, sigma_now, unknown_timed, known_timed, count, tall, unknown_count, youngest, youngest_step, is_live, is_live_step}
+use Rattle.mm_tree.specs.Meanings.{mean, means, mean-unknown, mean-known, map-map, text_now, sigma_now, unknown_timed, known_timed, count, tall, unknown_count, youngest, youngest_step}
 use Rattle.mm_tree.specs.View.{Shared, values, counts}
 use Rattle.mm_tree.specs.declared.timed.Text.{Text}
 use Rattle.mm_tree.specs.declared.timed.Values.{Values}

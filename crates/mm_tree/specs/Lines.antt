@@ -1,5 +1,5 @@
 -- What the bindings of a version make of a string.
-use Rattle.std.specs.Prelude.{◌≡◌, ℕ, List, [], ◌∷◌, map, drop, if◌then◌else◌}
+use Rattle.std.specs.Prelude.{ℕ, List, [], ◌∷◌, map, drop, if◌then◌else◌}
 use Rattle.mm_subst.specs.declared.symbol.WSym.{WSym}
 use Rattle.mm_subst.specs.Substitutions.{Pairs, applied}
 use Rattle.mm_subst.specs.Symbols.{has_work}

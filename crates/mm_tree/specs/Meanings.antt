@@ -1,7 +1,7 @@
 -- The plain tree that a tree with births is under the bindings of a version.
-use Rattle.std.specs.Prelude.{◌≡◌, ℕ, ◌+◌, ◌≤◌, max, Bool, false, ◌||◌, List, [], ◌∷◌, map, refl}
-use Rattle.std.proofs.Common.{◌∙◌, ap, sym}
-use Rattle.std.specs.List.{sum_by, list_any}
+use Rattle.std.specs.Prelude.{◌≡◌, ℕ, max, Bool, ◌||◌, List, [], ◌∷◌, map, refl}
+use Rattle.std.proofs.Common.{◌∙◌, ap}
+use Rattle.std.specs.List.{list_any}
 use Rattle.mm_subst.specs.declared.symbol.WSym.{WSym}
 use Rattle.mm_subst.specs.Substitutions.{Pairs}
 use Rattle.mm_subst.specs.Symbols.{has_work}

@@ -1,5 +1,5 @@
 -- What a tree is seen as.
-use Rattle.std.specs.Prelude.{◌≡◌, ℕ, ◌+◌, ◌≤◌, ◌<◌, length, vec_len, vec_capacity}
+use Rattle.std.specs.Prelude.{ℕ, ◌+◌, ◌≤◌, ◌<◌, length, vec_len, vec_capacity}
 use Rattle.mm_plain.specs.Shape.{Proof}
 use Rattle.mm_tree.specs.View.{values}
 use Rattle.mm_tree.specs.Versions.{Versions, hand_plain, hand_node, hand_length, IsSound}

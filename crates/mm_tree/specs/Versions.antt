@@ -1,6 +1,6 @@
 -- The versions of a tree, and which proof a mark names. Settled versions have their roots in one list and their bindings in
 -- another. Drafts begin at a settled version, and have their roots and bindings in lists of their own.
-use Rattle.std.specs.Prelude.{◌≡◌, ℕ, ◌+◌, ◌≤◌, ◌<◌, Bool, true, false, not, ◌==◌, List, [], ◌∷◌, ◌++◌, take, length, get_or}
+use Rattle.std.specs.Prelude.{◌≡◌, ℕ, ◌+◌, ◌≤◌, ◌<◌, Bool, true, false, not, ◌==◌, List, [], ◌++◌, take, length, get_or}
 use Rattle.mm_plain.specs.declared.plain.Plain.{Plain}
 use Rattle.mm_plain.specs.Shape.{Proof}
 use Rattle.mm_plain.specs.Valid.{most_works, most_steps, most_levels}

@@ -36,7 +36,7 @@ pub fn value<'a>(sigma: &'a Subst, symbol: &'a WSym) -> &'a [WSym]
 }
 
 /// The string with each key replaced by its value, however long it gets.
-fn replaced(alloc: Global, theta: &Subst, s: &WStr) -> Result<WStr, AllocError>
+pub fn replaced(alloc: Global, theta: &Subst, s: &WStr) -> Result<WStr, AllocError>
     ensures { IfOk result (λ t. t ≡ applied theta.now s.now) }
 {
     let mut out = Vec::new(alloc);

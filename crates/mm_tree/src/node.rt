@@ -4,7 +4,7 @@ ghost use Rattle.std.specs.Prelude.{◌≡◌, ◌+◌, ◌<◌, ◌≤◌, ◌^
 ghost use Rattle.std.specs.List.{list_any, last_or, sum_by};
 ghost use Rattle.mm_subst.specs.Symbols.{has_work};
 ghost use Rattle.mm_plain.specs.Shape.{greatest, seat, depth_at, target_of, steps_of, step_at};
-ghost use Rattle.mm_plain.specs.Sources.{label_of, is_pending};
+ghost use Rattle.mm_plain.specs.Sources.{label_of, is_pending, source_of};
 ghost use Rattle.mm_plain.specs.Numbers.{labels_in, numbers_from, unknowns_among, HasOwnLabels};
 ghost use Rattle.mm_tree.specs.Lines.{Line};
 ghost use Rattle.mm_tree.specs.Meanings.{mean, means, text_now, youngest, count, tall, unknown_count, is_live, unknown_timed, known_timed, has_values_with_work};
@@ -12,7 +12,7 @@ ghost use Rattle.mm_tree.specs.View.{values, counts};
 ghost use Rattle.mm_tree.specs.Paths.{IsChild, IsRoot, IsPut, IsRebuilt};
 
 use crate::line::{Line, string_now};
-use crate::sources::fits;
+use crate::sources::{fits, source};
 use crate::timed::{Text, Values};
 use mm_base::{Made, Steps};
 use mm_scope::{Database, StmtId};
@@ -209,6 +209,44 @@ impl Node {
         match &self.step {
             Step::Known(_, label, _, _) => Some(*label),
             Step::Unknown(_) => None,
+        }
+    }
+
+    /// What the statement that the step names says in a version, under the step's substitution; `None` where it is unknown.
+    pub fn source(
+        &self,
+        alloc: Global,
+        db: &Database,
+        line: &Line<'_>,
+    ) -> Result<Option<WStr>, AllocError>
+        requires { HasOwnLabels db.now (mean self.now line.now) }
+        ensures { IfOk result (λ s. s ≡ source_of db.now (mean self.now line.now)) }
+    {
+        match &self.step {
+            Step::Known(_, label, sigma, _) => {
+                let source = source(alloc, db, line, StmtId(*label), sigma)?;
+                Ok(Some(source))
+            }
+            Step::Unknown(_) => Ok(None),
+        }
+    }
+
+    /// Whether the step is known, and its string in a version is not what its statement says there.
+    pub fn is_pending(
+        &self,
+        alloc: Global,
+        db: &Database,
+        line: &Line<'_>,
+    ) -> Result<bool, AllocError>
+        requires { HasOwnLabels db.now (mean self.now line.now) }
+        ensures { IfOk result (λ b. b ≡ is_pending db.now (mean self.now line.now)) }
+    {
+        match &self.step {
+            Step::Known(target, label, sigma, _) => {
+                let source = fits(alloc, db, line, target, StmtId(*label), sigma)?;
+                Ok(!source)
+            }
+            Step::Unknown(_) => Ok(false),
         }
     }
 

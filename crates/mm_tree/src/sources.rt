@@ -10,11 +10,11 @@ ghost use Rattle.mm_subst.specs.declared.symbol.WSym.{WSym};
 ghost use Rattle.mm_tree.specs.Lines.{values_now};
 ghost use Rattle.mm_tree.specs.Meanings.{text_now, sigma_now};
 
-use crate::line::{Line, string_now, value};
+use crate::line::{Line, replaced, string_now, value};
 use crate::node::has_values_with_work;
 use crate::timed::{Text, Values};
 use mm_scope::{Database, StmtId, Sym};
-use mm_subst::{Subst, WSym, has_work, own_symbol};
+use mm_subst::{Subst, WStr, WSym, has_work, own_symbol, statement};
 use std::alloc::{AllocError, Global};
 
 /// What is left of a string behind another; `None` where it does not begin with it.
@@ -83,4 +83,20 @@ pub fn fits(
     let target = string_now(alloc, line, target.birth, &target.string)?;
     let sigma = values_now(alloc, line, sigma)?;
     Ok(is_source(db, id, &sigma, target.symbols()))
+}
+
+/// What a statement says under a substitution as it is in a version.
+pub fn source(
+    alloc: Global,
+    db: &Database,
+    line: &Line<'_>,
+    id: StmtId,
+    sigma: &Values,
+) -> Result<WStr, AllocError>
+    requires { id.0 < length (labels_of db.now) }
+    ensures { IfOk result (λ s. s ≡ applied (sigma_now line.now sigma.now) (statement_of db.now id.0)) }
+{
+    let sigma = values_now(alloc, line, sigma)?;
+    let statement = statement(alloc, db, id)?;
+    replaced(alloc, &sigma, &statement)
 }

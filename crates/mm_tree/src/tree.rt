@@ -9,7 +9,7 @@ ghost use Rattle.mm_subst.specs.Symbols.{has_work};
 ghost use Rattle.mm_subst.specs.declared.symbol.WSym.{WSym};
 ghost use Rattle.mm_plain.specs.Premises.{premises_of};
 ghost use Rattle.mm_plain.specs.Shape.{size_of, height_of, unknown, step_at, depth_at, target_of, put};
-ghost use Rattle.mm_plain.specs.Sources.{label_of};
+ghost use Rattle.mm_plain.specs.Sources.{is_pending, label_of, source_of};
 ghost use Rattle.mm_plain.specs.Numbers.{labels_in, unknowns_among, last_unknown_of, pending_in, HasOwnLabels};
 ghost use Rattle.mm_plain.specs.Grafts.{cleared_in, grafted_in};
 ghost use Rattle.mm_plain.specs.Valid.{Fits, IsString, IsValid, first_setting, placed_in, setting_of};
@@ -198,6 +198,33 @@ impl Tree {
         self.hand()
             .pending(alloc, db, &self.line(), 1, &mut pending)?;
         Ok(pending)
+    }
+
+    /// What the statement that a step names says under the step's substitution; `None` exactly where the step is unknown.
+    pub fn source(
+        &self,
+        alloc: Global,
+        db: &Database,
+        step: u32,
+    ) -> Result<Option<WStr>, AllocError>
+        requires exists { (1 ≤ step) × (step ≤ size_of self.now.proof.plain) }
+        requires own { HasOwnLabels db.now self.now.proof.plain }
+        ensures { IfOk result (λ s. s ≡ source_of db.now (step_at self.now.proof.plain step)) }
+    {
+        self.hand()
+            .at(u64::from(step))
+            .source(alloc, db, &self.line())
+    }
+
+    /// Whether a step is known, and its string is not what its statement says under its substitution.
+    pub fn is_pending(&self, alloc: Global, db: &Database, step: u32) -> Result<bool, AllocError>
+        requires exists { (1 ≤ step) × (step ≤ size_of self.now.proof.plain) }
+        requires own { HasOwnLabels db.now self.now.proof.plain }
+        ensures { IfOk result (λ b. b ≡ is_pending db.now (step_at self.now.proof.plain step)) }
+    {
+        self.hand()
+            .at(u64::from(step))
+            .is_pending(alloc, db, &self.line())
     }
 
     /// Draws work variables: raises the counter, and answers the first number.

@@ -1,4 +1,4 @@
-use Rattle.std.proofs.Common.{ap, sym, ◌∙◌, arith, List, set}
+use Rattle.std.proofs.Common.{ap, ◌∙◌, arith, List, set}
 use Rattle.std.specs.List.{sum_by}
 use Rattle.mm_tree.specs.declared.timed.TimedTree.{TimedTree}
 use Rattle.mm_tree.specs.Meanings.{count}

@@ -1,7 +1,7 @@
 use Rattle.std.proofs.Common.{◌≡◌, [], ◌++◌, take}
 use Rattle.std.specs.List.{flat_map}
 use Rattle.mm_plain.specs.Numbers.{labels_in}
-use Rattle.mm_tree.specs.Meanings.{count, means}
+use Rattle.mm_tree.specs.Meanings.{means}
 use Rattle.mm_tree.specs.View.{values}
 use Rattle.mm_tree.proofs.node.Node.+labels.Given as goal
 

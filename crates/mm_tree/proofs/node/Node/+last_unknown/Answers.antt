@@ -7,7 +7,7 @@ use Rattle.mm_plain.specs.Numbers.{labels_in, numbers_from, unknowns_among}
 use Rattle.mm_plain.proofs.Walks.{last-walked, labels_in-unknown}
 use Rattle.mm_tree.specs.declared.timed.TimedTree.{TimedTree}
 use Rattle.mm_tree.specs.Meanings.{mean, means, count, unknown_count, text_now, sigma_now}
-use Rattle.mm_tree.specs.View.{Shared, timed_of, values}
+use Rattle.mm_tree.specs.View.{timed_of, values}
 use Rattle.mm_tree.specs.Falls.{count-shared}
 use Rattle.mm_tree.proofs.Shapes.{size_of-mean, unknowns-mean, sizes-means, counts-values}
 use Rattle.mm_tree.proofs.Kids.{is-known, is-unknown, many-means, mean-at, number-holds}

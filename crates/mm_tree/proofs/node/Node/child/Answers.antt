@@ -1,9 +1,9 @@
-use Rattle.std.proofs.Common.{◌≡◌, ◌+◌, [], List, length, ap, sym, ◌∙◌, arith}
+use Rattle.std.proofs.Common.{[], List, ap, sym, ◌∙◌, arith}
 use Rattle.mm_plain.specs.Shape.{seat}
-use Rattle.mm_tree.specs.Meanings.{means, count}
+use Rattle.mm_tree.specs.Meanings.{means}
 use Rattle.mm_tree.specs.View.{Shared, timed_of, values}
 use Rattle.mm_tree.proofs.Shapes.{length-values}
-use Rattle.mm_tree.proofs.Paths.{IsHolder, holder, value-at, own-step, own-leaf, put-own, put-leaf, put-ok, child-count}
+use Rattle.mm_tree.proofs.Paths.{holder, value-at, own-step, own-leaf}
 use Rattle.mm_tree.proofs.node.Node.child.Goals as goal
 
 pub returns-then-i-len : goal.returns-then-i-len

@@ -1,8 +1,6 @@
-use Rattle.std.proofs.Common.{ap, sym, ◌∙◌, arith}
-use Rattle.mm_tree.specs.Meanings.{youngest}
+use Rattle.std.proofs.Common.{ap, sym, ◌∙◌}
 use Rattle.mm_tree.specs.View.{timed_of, values}
-use Rattle.mm_tree.proofs.Shapes.{youngest-known, youngest-unknown}
-use Rattle.mm_tree.proofs.Kids.{target-known, target-unknown, label-known, label-unknown}
+use Rattle.mm_tree.proofs.Kids.{label-known, label-unknown}
 use Rattle.mm_tree.proofs.node.Node.label.Goals as goal
 
 pub returns-in-Known : goal.returns-in-Known

@@ -2,7 +2,7 @@ use Rattle.std.proofs.Common.{ap, sym, ◌∙◌, arith}
 use Rattle.mm_tree.specs.Meanings.{youngest}
 use Rattle.mm_tree.specs.View.{timed_of, values}
 use Rattle.mm_tree.proofs.Shapes.{youngest-known, youngest-unknown}
-use Rattle.mm_tree.proofs.Kids.{target-known, target-unknown, label-known, label-unknown}
+use Rattle.mm_tree.proofs.Kids.{target-known, target-unknown}
 use Rattle.mm_tree.proofs.node.Node.text.Goals as goal
 
 pub returns-in-Known-clause-now : goal.returns-in-Known-clause-now

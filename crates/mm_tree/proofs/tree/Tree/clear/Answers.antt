@@ -1,24 +1,16 @@
-use Rattle.std.proofs.Common.{◌≡◌, ℕ, ◌+◌, ◌-◌, ◌≤◌, List, [], ◌∷◌, ◌++◌, true, take, length, Result, Ok, Err, OnOk, ap, sym, refl, subst, ◌∙◌, arith}
-use Rattle.mm_subst.specs.declared.symbol.WSym.{WSym}
+use Rattle.std.proofs.Common.{◌≡◌, ◌≤◌, true, ap, sym, subst, ◌∙◌, arith}
 use Rattle.mm_plain.specs.declared.plain.Plain.{Plain}
-use Rattle.mm_plain.specs.Shape.{Proof, size_of, height_of, depth_at, put, step_at, target_of, unknown, known, unknowns, placed}
-use Rattle.mm_plain.specs.Grafts.{cleared, cleared_in, grafted_in, raised}
-use Rattle.mm_plain.specs.Premises.{premises_of}
-use Rattle.mm_plain.specs.Valid.{IsValid, placed_in}
+use Rattle.mm_plain.specs.Shape.{size_of, height_of, put, step_at, target_of, unknown}
+use Rattle.mm_plain.specs.Grafts.{grafted_in}
+use Rattle.mm_plain.specs.Valid.{IsValid}
 use Rattle.mm_plain.proofs.Parts.{size-cleared-le, height-cleared-le}
 use Rattle.mm_plain.proofs.Grafts.{valid-cleared}
-use Rattle.mm_tree.specs.Lines.{Line}
-use Rattle.mm_tree.specs.Meanings.{mean, mean-unknown, count, youngest, text_now, unknown_timed}
-use Rattle.mm_tree.specs.Paths.{IsPut}
-use Rattle.mm_tree.specs.Placed.{IsPlaced, placed_timed}
-use Rattle.mm_tree.specs.Versions.{Versions, KeepsMarks, hand_plain, hand_node, hand_length, line_of}
-use Rattle.mm_tree.specs.Trees.{State, IsWhole, state_by, versions_of}
-use Rattle.mm_tree.specs.View.{Shared, values}
-use Rattle.mm_tree.specs.declared.timed.Text.{Text}
+use Rattle.mm_tree.specs.Meanings.{mean, mean-unknown, youngest}
+use Rattle.mm_tree.specs.Versions.{line_of}
+use Rattle.mm_tree.specs.Trees.{versions_of}
 use Rattle.mm_tree.specs.declared.timed.TimedTree.{TimedTree}
-use Rattle.mm_tree.proofs.Shapes.{length-values, size_of-mean, depth_at-mean, youngest-unknown}
-use Rattle.mm_tree.proofs.Keeping.{seven, seven-same, with_root, kept-root, values-append, length-line}
-use Rattle.mm_tree.proofs.Made.{more-plain, more-whole, placed-mean, placed-young, on-ok, IsFine, fine, fine-few, fine-low}
+use Rattle.mm_tree.proofs.Shapes.{youngest-unknown}
+use Rattle.mm_tree.proofs.Made.{on-ok, IsFine, fine, fine-few, fine-low}
 use Rattle.mm_tree.proofs.tree.Tree.clear.Goals as goal
 
 pub replace_step-requires : goal.replace_step-requires

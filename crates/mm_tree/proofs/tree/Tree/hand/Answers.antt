@@ -1,4 +1,4 @@
-use Rattle.std.proofs.Common.{◌-◌, List, length, Option, Some, None, ap, sym, ◌∙◌, arith}
+use Rattle.std.proofs.Common.{◌-◌, List, length, ap, sym, ◌∙◌, arith}
 use Rattle.std.specs.List.{slice_get}
 use Rattle.mm_tree.specs.Trees.{State}
 use Rattle.mm_tree.specs.Versions.{hand_node}

@@ -1,15 +1,9 @@
-use Rattle.std.proofs.Common.{◌≡◌, ℕ, List, true, IfOk, ap, sym, subst, ◌∙◌, arith}
+use Rattle.std.proofs.Common.{true, ap, sym, ◌∙◌, arith}
 use Rattle.mm_plain.specs.declared.plain.Plain.{Plain}
-use Rattle.mm_plain.specs.Shape.{size_of, depth_at, step_at, target_of}
+use Rattle.mm_plain.specs.Shape.{size_of, step_at}
 use Rattle.mm_plain.specs.Sources.{label_of}
-use Rattle.mm_subst.specs.declared.symbol.WSym.{WSym}
-use Rattle.mm_tree.specs.Lines.{Line}
-use Rattle.mm_tree.specs.Meanings.{mean, youngest}
-use Rattle.mm_tree.specs.Versions.{line_of, hand_length}
-use Rattle.mm_tree.specs.View.{Shared}
-use Rattle.mm_tree.specs.declared.timed.Text.{Text}
-use Rattle.mm_tree.proofs.Shapes.{size_of-mean, depth_at-mean}
-use Rattle.mm_tree.proofs.Made.{if-ok}
+use Rattle.mm_tree.specs.Versions.{line_of}
+use Rattle.mm_tree.proofs.Shapes.{size_of-mean}
 use Rattle.mm_tree.proofs.tree.Tree.label.Goals as goal
 
 pub at-requires : goal.at-requires

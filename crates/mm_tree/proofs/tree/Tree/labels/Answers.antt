@@ -1,13 +1,8 @@
-use Rattle.std.proofs.Common.{[], ◌++◌, List, Option, None, is_none, true, ap, sym, subst, ◌∙◌, arith}
-use Rattle.std.specs.List.{last_or}
-use Rattle.mm_plain.specs.declared.plain.Plain.{Plain}
-use Rattle.mm_plain.specs.Shape.{steps_of}
-use Rattle.mm_plain.specs.Sources.{is_pending}
-use Rattle.mm_plain.specs.Numbers.{labels_in, numbers_from, unknowns_among, HasOwnLabels}
+use Rattle.std.proofs.Common.{[], ◌++◌, true, ap, sym, ◌∙◌}
+use Rattle.mm_plain.specs.Numbers.{labels_in}
 use Rattle.mm_tree.specs.Meanings.{mean}
 use Rattle.mm_tree.specs.Versions.{line_of}
-use Rattle.mm_tree.proofs.Shapes.{labels_in-mean, unknowns-mean}
-use Rattle.mm_tree.proofs.Kids.{unknown_count-le-count}
+use Rattle.mm_tree.proofs.Shapes.{labels_in-mean}
 use Rattle.mm_tree.proofs.tree.Tree.labels.Goals as goal
 
 pub returns : goal.returns

@@ -1,4 +1,4 @@
-use Rattle.std.proofs.Common.{◌≡◌, ap, sym, refl, subst, ◌∙◌, arith}
+use Rattle.std.proofs.Common.{ap, sym, refl, subst, ◌∙◌, arith}
 use Rattle.mm_tree.specs.Trees.{State}
 use Rattle.mm_tree.specs.Versions.{HasNoDrafts}
 use Rattle.mm_tree.specs.View.{values}

@@ -1,6 +1,6 @@
-use Rattle.std.proofs.Common.{◌≡◌, List, sym, ◌∙◌, ap, subst}
+use Rattle.std.proofs.Common.{List, sym, ◌∙◌, ap, subst}
 use Rattle.mm_subst.specs.declared.symbol.WSym.{WSym}
-use Rattle.mm_plain.specs.Shape.{Proof, unknown}
+use Rattle.mm_plain.specs.Shape.{unknown}
 use Rattle.mm_plain.specs.Valid.{IsValid}
 use Rattle.mm_plain.proofs.Kept.{valid-start}
 use Rattle.mm_tree.proofs.Grown.{proof_of}
