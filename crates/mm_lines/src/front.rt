@@ -16,7 +16,6 @@ pub struct Front {
 
 impl Model for Front {
     ghost use Rattle.std.specs.Prelude.{List, ℕ, ◌≤◌, vec_len, vec_capacity};
-
     ghost use Rattle.mm_lines.specs.Limits.{most_held};
 
     ghost Value = { List ℕ };
