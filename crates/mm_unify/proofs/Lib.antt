@@ -24,3 +24,5 @@ pub mod Growing
 pub mod Advancing
 pub mod Visiting
 pub mod Searching
+pub mod Apart
+pub mod Ordered

@@ -20,7 +20,7 @@ use Rattle.mm_unify.proofs.Explored.{all_map}
 abbrev pub keys : Pairs → List WSym
 keys u = map (λ q. q.0) u
 
-keys-step : (p : WSym × List WSym) (values : Pairs) → keys (with_values (p ∷ []) values) ≡ keys values
+pub keys-step : (p : WSym × List WSym) (values : Pairs) → keys (with_values (p ∷ []) values) ≡ keys values
 keys-step p [] = refl
 keys-step p (q ∷ values) = ap (λ t. q.0 ∷ t) (keys-step p values)
 
@@ -46,7 +46,7 @@ any_key (m ∷ ms) n (inr h) = go (is_same (Work m) (Work n)) (any_key ms n h)
     go true e = refl
     go false e = e
 
-stepped_apply : (p : WSym × List WSym) (values : Pairs) (ms : List ℕ) → is_work p.0 ≡ true → keys values ≡ map Work ms → (s : List WSym) → Numbered ms s →
+pub stepped_apply : (p : WSym × List WSym) (values : Pairs) (ms : List ℕ) → is_work p.0 ≡ true → keys values ≡ map Work ms → (s : List WSym) → Numbered ms s →
     applied (with_values (p ∷ []) values) s ≡ applied (p ∷ []) (applied values s)
 unfolding applied
 stepped_apply p values ms w k [] h = refl
@@ -153,11 +153,11 @@ sound_from rule a b (suc n) (node ∷ rest) h =
     go true v k = tt
     go false v k = AllByRecursion-append (Solves a b) (visit rule node).found later.found v k
 
-selves_apply : (ms : List ℕ) (c : WSym) → value_of (selves ms) c ≡ c ∷ []
+pub selves_apply : (ms : List ℕ) (c : WSym) → value_of (selves ms) c ≡ c ∷ []
 selves_apply [] c = refl
 selves_apply (m ∷ ms) c = value_cases (Work m, Work m ∷ []) (selves ms) c (λ t. t ≡ c ∷ []) (λ e. ap (λ d. d ∷ []) (is_same-true (Work m) c e)) (λ e. selves_apply ms c)
 
-selves_string : (ms : List ℕ) (s : List WSym) → applied (selves ms) s ≡ s
+pub selves_string : (ms : List ℕ) (s : List WSym) → applied (selves ms) s ≡ s
 unfolding applied
 selves_string ms [] = refl
 selves_string ms (c ∷ s) = let h = selves_apply ms c in let k = selves_string ms s in cc

@@ -7,3 +7,4 @@ pub mod Trials
 pub mod Parts
 pub mod Frames
 pub mod Laws
+pub mod Ordering

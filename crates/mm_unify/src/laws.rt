@@ -1,6 +1,7 @@
 //! What holds of each search.
 
 ghost use Rattle.mm_unify.specs.Laws.{FindsValue, MoreChangeNothing, HasNoSides};
+ghost use Rattle.mm_unify.specs.Ordering.{ListsInOrder};
 
 /// A typecode and a work variable against the typecode and a value without work variables: that value alone is found, in
 /// one trial and two for each of its symbols, whichever of the two is on the left.
@@ -16,4 +17,12 @@ pub fn more_trials_change_nothing()
 /// Where one of the strings has no work variable it doesn't matter which of them is on the left.
 pub fn sides_do_not_matter()
     ensures { HasNoSides }
+{}
+
+/// Where one of the strings has no work variable, the unifiers stand in the order of shortest values first, leftmost
+/// variable first: along the other string the values of an earlier unifier and of a later one are the same up to a
+/// variable, and there the earlier one's is shorter. It makes no difference whether brackets are heeded, on which side
+/// the strings are, and how the search ended.
+pub fn unifiers_are_in_order()
+    ensures { ListsInOrder }
 {}

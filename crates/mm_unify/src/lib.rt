@@ -14,5 +14,7 @@ mod values;
 mod visit;
 mod waiting;
 
-pub use laws::{more_trials_change_nothing, one_value_is_found, sides_do_not_matter};
+pub use laws::{
+    more_trials_change_nothing, one_value_is_found, sides_do_not_matter, unifiers_are_in_order,
+};
 pub use listing::{Ended, Listing, Rule, Settings, unifiers};
