@@ -8,4 +8,5 @@ pub mod Grown
 pub mod ByIds
 pub mod Behind
 pub mod Rooms
+pub mod Longs
 pub mod Unknowns

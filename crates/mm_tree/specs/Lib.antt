@@ -6,3 +6,4 @@ pub mod Paths
 pub mod Versions
 pub mod Trees
 pub mod Placed
+pub mod Bound

@@ -1,6 +1,7 @@
 //! Why a tree does not grow.
 
 ghost use Rattle.std.specs.Prelude.{◌≡◌};
+ghost use Rattle.mm_tree.specs.declared.fault.BindFault.TheVariants as b;
 ghost use Rattle.mm_tree.specs.declared.fault.GraftFault.TheVariants.{Memory};
 
 use std::alloc::AllocError;
@@ -25,6 +26,25 @@ impl From<AllocError> for GraftFault {
 
     fn from(_e: AllocError) -> GraftFault {
         GraftFault::Memory
+    }
+}
+
+/// Why no substitution is applied to a tree.
+#[derive(Clone, Copy, Debug, PartialEq, Eq, Error)]
+pub enum BindFault {
+    /// The string, the source or a value of this step, the first such, would have more than 32,768 symbols.
+    #[error("too many symbols")]
+    TooLong(u32),
+    /// Memory ran out.
+    #[error("out of memory")]
+    Memory,
+}
+
+impl From<AllocError> for BindFault {
+    ghost from_gives = { λ _ e. e ≡ b.Memory };
+
+    fn from(_e: AllocError) -> BindFault {
+        BindFault::Memory
     }
 }
 

@@ -6,6 +6,7 @@
 #![tactic(auto)]
 
 mod fault;
+mod lengths;
 mod line;
 mod node;
 mod premises;
@@ -15,7 +16,7 @@ mod tests;
 mod timed;
 mod tree;
 
-pub use fault::{GraftFault, WorkSpent};
+pub use fault::{BindFault, GraftFault, WorkSpent};
 pub use premises::premises as hypotheses;
 pub use std::alloc::AllocError as Memory;
 pub use tree::{MOST_LEVELS, MOST_STEPS, MOST_WORKS, Mark, Tree};

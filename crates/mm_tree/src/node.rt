@@ -5,12 +5,15 @@ ghost use Rattle.std.specs.List.{list_any, last_or, sum_by};
 ghost use Rattle.mm_subst.specs.Symbols.{has_work};
 ghost use Rattle.mm_plain.specs.Shape.{greatest, seat, depth_at, target_of, steps_of, step_at};
 ghost use Rattle.mm_plain.specs.Sources.{label_of, is_pending, source_of};
-ghost use Rattle.mm_plain.specs.Numbers.{labels_in, numbers_from, unknowns_among, HasOwnLabels};
+ghost use Rattle.mm_plain.specs.Binding.{HasWorkKeys, bound};
+ghost use Rattle.mm_plain.specs.Lengths.{first_long, is_long_step};
+ghost use Rattle.mm_plain.specs.Numbers.{first_from, labels_in, numbers_from, unknowns_among, HasOwnLabels};
 ghost use Rattle.mm_tree.specs.Lines.{Line};
 ghost use Rattle.mm_tree.specs.Meanings.{mean, means, text_now, youngest, count, tall, unknown_count, is_live, unknown_timed, known_timed, has_values_with_work};
 ghost use Rattle.mm_tree.specs.View.{values, counts};
 ghost use Rattle.mm_tree.specs.Paths.{IsChild, IsRoot, IsPut, IsRebuilt};
 
+use crate::lengths::{is_long, is_long_known};
 use crate::line::{Line, string_now};
 use crate::sources::{fits, source};
 use crate::timed::{Text, Values};
@@ -314,6 +317,50 @@ impl Node {
             }
         }
         Ok(())
+    }
+
+    /// The number of the first step of a version of which a string, the source or a value gets too long under a substitution,
+    /// where the first step has the number `first`; `None` where there is none. Nothing is looked at where no string has a
+    /// work variable.
+    pub fn first_long(
+        &self,
+        alloc: Global,
+        db: &Database,
+        line: &Line<'_>,
+        theta: &Subst,
+        first: u32,
+    ) -> Result<Option<u32>, AllocError>
+        requires few { first + count self.now < 2 ^ 32 }
+        requires own { HasOwnLabels db.now (mean self.now line.now) }
+        requires keys { HasWorkKeys theta.now }
+        requires short { first_long db.now (mean self.now line.now) ≡ None }
+        ensures { IfOk result (λ s. s ≡ first_from (is_long_step db.now) first (steps_of (bound theta.now (mean self.now line.now)))) }
+    {
+        if !self.live {
+            return Ok(None);
+        }
+        match &self.step {
+            Step::Known(target, label, sigma, kids) => {
+                let mut next = first;
+                for kid in kids {
+                    if let Some(step) = kid.first_long(alloc, db, line, theta, next)? {
+                        return Ok(Some(step));
+                    }
+                    next += kid.size() as u32;
+                }
+                if is_long_known(alloc, db, line, theta, target, StmtId(*label), sigma)? {
+                    return Ok(Some(next));
+                }
+                Ok(None)
+            }
+            Step::Unknown(target) => {
+                let string = string_now(alloc, line, target.birth, &target.string)?;
+                if is_long(theta, &string) {
+                    return Ok(Some(first));
+                }
+                Ok(None)
+            }
+        }
     }
 }
 

@@ -53,7 +53,7 @@ pub fn is_source(db: &Database, id: StmtId, sigma: &Subst, target: &[WSym]) -> b
 }
 
 /// A substitution as it is in a version.
-fn values_now(alloc: Global, line: &Line<'_>, sigma: &Values) -> Result<Subst, AllocError>
+pub fn values_now(alloc: Global, line: &Line<'_>, sigma: &Values) -> Result<Subst, AllocError>
     ensures { IfOk result (λ s. s ≡ sigma_now line.now sigma.now) }
 {
     let mut now = Subst::new(alloc);

@@ -11,13 +11,16 @@ ghost use Rattle.mm_plain.specs.Premises.{premises_of};
 ghost use Rattle.mm_plain.specs.Shape.{size_of, height_of, unknown, step_at, depth_at, target_of, put};
 ghost use Rattle.mm_plain.specs.Sources.{is_pending, label_of, source_of};
 ghost use Rattle.mm_plain.specs.Numbers.{labels_in, unknowns_among, last_unknown_of, pending_in, HasOwnLabels};
+ghost use Rattle.mm_plain.specs.Binding.{HasWorkKeys, IsBinding, bound, bound_in};
 ghost use Rattle.mm_plain.specs.Grafts.{cleared_in, grafted_in};
+ghost use Rattle.mm_plain.specs.Lengths.{first_long};
 ghost use Rattle.mm_plain.specs.Valid.{Fits, IsString, IsValid, first_setting, placed_in, setting_of};
+ghost use Rattle.mm_tree.specs.Bound.{IsBound};
 ghost use Rattle.mm_tree.specs.Meanings.{mean, count, tall, youngest, text_now};
 ghost use Rattle.mm_tree.specs.Placed.{HasRoom, IsDrawn, IsPlaced};
 ghost use Rattle.mm_tree.specs.Versions.{BeginsAlike, HasNoDrafts, is_draft, IsAlive, KeepsMarks, KeepsOlder, KeepsUpTo, StandsAt, hand_length, hand_node, hand_root, line_of, named};
 
-use crate::fault::{GraftFault, WorkSpent};
+use crate::fault::{BindFault, GraftFault, WorkSpent};
 use crate::line::Line;
 use crate::node::{Node, put};
 use crate::premises::{known_over, levels_over, premises, text, unknown_node};
@@ -311,6 +314,28 @@ impl Tree {
         self.replace_step(alloc, step, node, steps)
     }
 
+    /// Applies a substitution for work variables to the string of each step, and to each value of its substitution: all keys at
+    /// once. Where that is refused the tree is as before. Each mark that is alive stays alive. No node is made.
+    pub fn bind(&mut self, alloc: Global, db: &Database, theta: &Subst) -> Result<(), BindFault>
+        requires keys { HasWorkKeys theta.now }
+        requires own { HasOwnLabels db.now self.old.proof.plain }
+        // No string, source or value of the proof is too long.
+        requires short { first_long db.now self.old.proof.plain ≡ None }
+        ensures bound { IsBound result db.now self.old self.new (bound_in theta.now self.old.proof) }
+        ensures marks { KeepsMarks self.old.versions self.new.versions }
+        ensures begun { BeginsAlike self.old.versions self.new.versions }
+        // A proof that is valid for a theorem stays valid, where the values have symbols of the database, and work variables
+        // that were drawn.
+        ensures valid { OnOk result ((at : ℕ) (goal : List WSym) → IsValid db.now at goal self.old.proof → IsBinding (setting_of db.now at self.old.proof) theta.now → IsValid db.now at (applied theta.now goal) self.new.proof) }
+    {
+        if let Some(step) = self.first_long(alloc, db, theta)? {
+            return Err(BindFault::TooLong(step));
+        }
+        let theta = theta.copy(alloc)?;
+        self.add_binding(theta)?;
+        Ok(())
+    }
+
     /// The mark of the version in hand.
     pub fn mark(&self) -> Mark
         ensures alive { IsAlive self.now.versions result }
@@ -458,6 +483,35 @@ impl Tree {
         ensures born { IfOk result (λ t. t.value.birth ≤ hand_length self.now.versions) }
     {
         self.hand().at(u64::from(step)).share_text()
+    }
+
+    /// The first step of which a string, the source or a value gets too long under a substitution.
+    fn first_long(
+        &self,
+        alloc: Global,
+        db: &Database,
+        theta: &Subst,
+    ) -> Result<Option<u32>, AllocError>
+        requires keys { HasWorkKeys theta.now }
+        requires own { HasOwnLabels db.now self.now.proof.plain }
+        requires short { first_long db.now self.now.proof.plain ≡ None }
+        ensures { IfOk result (λ s. s ≡ first_long db.now (bound theta.now self.now.proof.plain)) }
+    {
+        self.hand().first_long(alloc, db, &self.line(), theta, 1)
+    }
+
+    /// Appends a binding to those of the drafts.
+    fn add_binding(&mut self, theta: Subst) -> Result<(), AllocError>
+        requires { HasWorkKeys theta }
+        ensures ok { OnOk result (self.new.proof ≡ bound_in theta self.old.proof) }
+        ensures err { OnErr result (self.new ≡ self.old) }
+        ensures marks { KeepsMarks self.old.versions self.new.versions }
+        ensures begun { BeginsAlike self.old.versions self.new.versions }
+    {
+        let drafts = self.draft_bindings.len();
+        self.trail.reserve(drafts + 1)?;
+        self.draft_bindings.push(theta)?;
+        Ok(())
     }
 
     /// Puts a node in place of a step, as a draft.

@@ -1,7 +1,7 @@
 use Rattle.std.proofs.Common.{◌≡◌, ℕ, ◌+◌, length, ap, sym, refl, subst, ◌∙◌, arith}
 use Rattle.mm_plain.specs.declared.plain.Plain.{Plain}
 use Rattle.mm_plain.specs.Shape.{Proof}
-use Rattle.mm_tree.specs.Versions.{Versions, KeepsOlder, hand_plain, hand_length}
+use Rattle.mm_tree.specs.Versions.{Versions, KeepsOlder, hand_plain, hand_length, hand_root}
 use Rattle.mm_tree.specs.Trees.{State, IsWhole, versions_of}
 use Rattle.mm_tree.specs.View.{values}
 use Rattle.mm_tree.proofs.Shapes.{length-values}
