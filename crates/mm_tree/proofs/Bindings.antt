@@ -120,7 +120,7 @@ next_value : (line : Line) (b : ℕ) (p : WSym × List WSym) (ps : Pairs) (x : W
 next_value line b p ps x true e = refl
 next_value line b p ps x false e = e
 
-value_at-values_now : (line : Line) (b : ℕ) (ps : Pairs) (x : WSym) → value_at (values_now line b ps) x ≡ option_map (string_now line b) (value_at ps x)
+pub value_at-values_now : (line : Line) (b : ℕ) (ps : Pairs) (x : WSym) → value_at (values_now line b ps) x ≡ option_map (string_now line b) (value_at ps x)
 value_at-values_now line b [] x = refl
 value_at-values_now line b (p ∷ ps) x = next_value line b p ps x (is_same p.0 x) (value_at-values_now line b ps x)
 

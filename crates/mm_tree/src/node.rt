@@ -4,7 +4,9 @@ ghost use Rattle.std.specs.Prelude.{◌≡◌, ◌+◌, ◌<◌, ◌≤◌, ◌^
 ghost use Rattle.std.specs.List.{list_any, last_or, sum_by};
 ghost use Rattle.mm_subst.specs.Symbols.{has_work};
 ghost use Rattle.mm_plain.specs.Shape.{greatest, seat, depth_at, target_of, steps_of, step_at};
-ghost use Rattle.mm_plain.specs.Sources.{label_of, is_pending, source_of};
+ghost use Rattle.mm_plain.specs.Sources.{label_of, is_pending, sigma_of, source_of};
+ghost use Rattle.mm_subst.specs.Substitutions.{value_at};
+ghost use Rattle.mm_subst.specs.declared.symbol.WSym.TheVariants.{Var};
 ghost use Rattle.mm_plain.specs.Binding.{HasWorkKeys, bound};
 ghost use Rattle.mm_plain.specs.Lengths.{first_long, is_long_step};
 ghost use Rattle.mm_plain.specs.Numbers.{first_from, labels_in, numbers_from, unknowns_among, HasOwnLabels};
@@ -15,11 +17,11 @@ ghost use Rattle.mm_tree.specs.Paths.{IsChild, IsRoot, IsPut, IsRebuilt};
 
 use crate::lengths::{is_long, is_long_known};
 use crate::line::{Line, string_now};
-use crate::sources::{fits, source};
+use crate::sources::{fits, source, value_now};
 use crate::timed::{Text, Values};
 use mm_base::{Made, Steps};
-use mm_scope::{Database, StmtId};
-use mm_subst::{Subst, WStr, has_work};
+use mm_scope::{Database, StmtId, Sym};
+use mm_subst::{Subst, WStr, WSym, has_work};
 use std::alloc::{AllocError, Global};
 use std::marker::Model;
 use std::rc::Rc;
@@ -230,6 +232,16 @@ impl Node {
                 let source = source(alloc, db, line, StmtId(*label), sigma)?;
                 Ok(Some(source))
             }
+            Step::Unknown(_) => Ok(None),
+        }
+    }
+
+    /// The value of a variable under the step's substitution, in a version; `None` where it has none.
+    pub fn value(&self, alloc: Global, line: &Line<'_>, v: Sym) -> Result<Option<WStr>, AllocError>
+        ensures { IfOk result (λ s. s ≡ value_at (sigma_of (mean self.now line.now)) (Var v.0)) }
+    {
+        match &self.step {
+            Step::Known(_, _, sigma, _) => value_now(alloc, line, sigma, WSym::Var(v.0)),
             Step::Unknown(_) => Ok(None),
         }
     }

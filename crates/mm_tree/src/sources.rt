@@ -4,7 +4,7 @@ ghost use Rattle.std.specs.Prelude.{◌≡◌, ◌<◌, ◌++◌, List, length, 
 ghost use Rattle.std.specs.Cmp.Lexicographic.{pointwise};
 ghost use Rattle.mm_scope.specs.Contents.{labels_of};
 ghost use Rattle.mm_subst.specs.Statements.{statement_of};
-ghost use Rattle.mm_subst.specs.Substitutions.{applied};
+ghost use Rattle.mm_subst.specs.Substitutions.{applied, value_at};
 ghost use Rattle.mm_subst.specs.Symbols.{is_same};
 ghost use Rattle.mm_subst.specs.declared.symbol.WSym.{WSym};
 ghost use Rattle.mm_tree.specs.Lines.{values_now};
@@ -62,6 +62,22 @@ pub fn values_now(alloc: Global, line: &Line<'_>, sigma: &Values) -> Result<Subs
         now.put(alloc, *key, value)?;
     }
     Ok(now)
+}
+
+/// The value of a key in a version; `None` where no pair has the key.
+pub fn value_now(
+    alloc: Global,
+    line: &Line<'_>,
+    sigma: &Values,
+    key: WSym,
+) -> Result<Option<WStr>, AllocError>
+    ensures { IfOk result (λ s. s ≡ value_at (sigma_now line.now sigma.now) key) }
+{
+    let Some(value) = sigma.pairs.get(key) else {
+        return Ok(None);
+    };
+    let now = string_now(alloc, line, sigma.birth, value)?;
+    Ok(Some(now))
 }
 
 /// Whether a string is a statement under a substitution, both as they are in a version. Nothing is built where they have no

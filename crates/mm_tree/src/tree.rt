@@ -1,15 +1,16 @@
 //! Proof trees and their versions.
 
-ghost use Rattle.std.specs.Prelude.{◌≡◌, ◌↔◌, ◌+◌, ◌<◌, ◌≤◌, ◌++◌, ℕ, [], false, true, List, length, vec_len, vec_capacity, All, IfOk, OnOk, OnErr, None};
+ghost use Rattle.std.specs.Prelude.{◌≡◌, ◌↔◌, ◌+◌, ◌<◌, ◌≤◌, ◌++◌, ℕ, [], false, true, List, length, vec_len, vec_capacity, All, IfOk, OnOk, OnErr, None, Some, is_none};
 ghost use Rattle.std.specs.Option.{option_map};
 ghost use Rattle.mm_scope.specs.Contents.{labels_of};
 ghost use Rattle.mm_subst.specs.Statements.{statement_of};
-ghost use Rattle.mm_subst.specs.Substitutions.{Pairs, applied};
+ghost use Rattle.mm_subst.specs.Substitutions.{Pairs, applied, value_at};
 ghost use Rattle.mm_subst.specs.Symbols.{has_work};
 ghost use Rattle.mm_subst.specs.declared.symbol.WSym.{WSym};
+ghost use Rattle.mm_subst.specs.declared.symbol.WSym.TheVariants.{Var};
 ghost use Rattle.mm_plain.specs.Premises.{premises_of};
 ghost use Rattle.mm_plain.specs.Shape.{size_of, height_of, unknown, step_at, depth_at, target_of, put};
-ghost use Rattle.mm_plain.specs.Sources.{is_pending, label_of, source_of};
+ghost use Rattle.mm_plain.specs.Sources.{is_pending, label_of, sigma_of, source_of};
 ghost use Rattle.mm_plain.specs.Numbers.{labels_in, unknowns_among, last_unknown_of, pending_in, HasOwnLabels};
 ghost use Rattle.mm_plain.specs.Binding.{HasWorkKeys, IsBinding, bound, bound_in};
 ghost use Rattle.mm_plain.specs.Grafts.{cleared_in, grafted_in};
@@ -26,7 +27,7 @@ use crate::node::{Node, put};
 use crate::premises::{known_over, levels_over, premises, text, unknown_node};
 use crate::timed::Text;
 use mm_base::Steps;
-use mm_scope::{Database, StmtId};
+use mm_scope::{Database, StmtId, Sym};
 use mm_subst::{Subst, WStr, statement};
 use std::alloc::{AllocError, Global};
 use std::marker::{Brand, Model};
@@ -228,6 +229,22 @@ impl Tree {
         self.hand()
             .at(u64::from(step))
             .is_pending(alloc, db, &self.line())
+    }
+
+    /// The value of a variable under the substitution of a step that has one for it.
+    pub fn value(&self, alloc: Global, step: u32, v: Sym) -> Result<WStr, AllocError>
+        requires exists { (1 ≤ step) × (step ≤ size_of self.now.proof.plain) }
+        requires has { is_none (value_at (sigma_of (step_at self.now.proof.plain step)) (Var v.0)) ≡ false }
+        ensures { IfOk result (λ s. value_at (sigma_of (step_at self.now.proof.plain step)) (Var v.0) ≡ Some s) }
+    {
+        let value = self
+            .hand()
+            .at(u64::from(step))
+            .value(alloc, &self.line(), v)?;
+        match value {
+            Some(value) => Ok(value),
+            None => unreachable!(),
+        }
     }
 
     /// Draws work variables: raises the counter, and answers the first number.

@@ -1,15 +1,10 @@
-use Rattle.std.proofs.Common.{◌≡◌, ℕ, ◌+◌, ◌-◌, ◌≤◌, List, [], ◌∷◌, ◌++◌, true, take, length, ap, sym, refl, subst, ◌∙◌, arith}
+use Rattle.std.proofs.Common.{◌≡◌, ℕ, ◌-◌, ap, sym, refl, subst, ◌∙◌, arith}
 use Rattle.mm_plain.specs.declared.plain.Plain.{Plain}
-use Rattle.mm_plain.specs.Shape.{Proof, size_of, height_of, depth_at, put}
-use Rattle.mm_tree.specs.Meanings.{mean, count, youngest}
-use Rattle.mm_tree.specs.Paths.{IsPut}
-use Rattle.mm_tree.specs.Versions.{Versions, IsAlive, KeepsMarks, KeepsOlder, KeepsUpTo, HasNoDrafts, hand_plain, hand_node, hand_length, hand_root, line_of, named}
+use Rattle.mm_plain.specs.Shape.{Proof}
+use Rattle.mm_tree.specs.Versions.{Versions, IsAlive, KeepsUpTo, hand_plain, hand_length, hand_root, named}
 use Rattle.mm_tree.specs.Trees.{State, IsWhole, versions_of}
-use Rattle.mm_tree.specs.View.{Shared, values}
-use Rattle.mm_tree.specs.declared.timed.TimedTree.{TimedTree}
-use Rattle.mm_tree.proofs.Shapes.{length-values, size_of-mean, depth_at-mean}
-use Rattle.mm_tree.proofs.Keeping.{seven, seven-same, settled, plain-settled, whole-settled, older-settled, with_root, kept-root, cut_to, plain-cut, whole-cut, kept-cut, draft-mark, hand-cut, length-cut, set_to, plain-set, whole-set, kept-set, settled-mark, values-take, values-append, values-moved, pairs-moved}
-use Rattle.mm_tree.proofs.Made.{more-plain, more-whole}
+use Rattle.mm_tree.specs.View.{values}
+use Rattle.mm_tree.proofs.Keeping.{seven, seven-same, cut_to, plain-cut, whole-cut, kept-cut, draft-mark, hand-cut, length-cut, values-take}
 use Rattle.mm_tree.proofs.tree.Tree.back_to_draft.Goals as goal
 
 abbrev proof_by : ℕ → Plain → Proof
