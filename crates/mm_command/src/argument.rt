@@ -1,6 +1,6 @@
 //! What takes an argument off a line.
 
-ghost use Rattle.std.specs.Prelude.{◌≡◌, IfSome, IfNone, Ok};
+ghost use Rattle.std.specs.Prelude.{◌≡◌, ◌≤◌, IfOk, IfSome, IfNone, Ok};
 ghost use Rattle.mm_command.specs.Words.{piece_of};
 ghost use Rattle.mm_command.specs.Grammar.{Label, File, Text, EqualsSign, WorkVariable, OnOrOff, OffAlone, Number, Bytes, TextAt, EqualsGiven, Numbered, number_at, variable_at, fault, value_at};
 ghost use Rattle.mm_command.specs.Taking.{HasRoom, Takes, Gives};
@@ -65,15 +65,15 @@ pub fn take_equals(words: Words<'_>) -> Result<((), Words<'_>), LineFault>
 
 /// Takes a number from `low` to `high`.
 #[tactic(auto, unfolding(crate::specs::Grammar::take_one, crate::specs::Grammar::value_at))]
-pub fn take_number(words: Words<'_>, low: u64, high: u64) -> Result<(u64, Words<'_>), LineFault>
+pub fn take_number(words: Words<'_>, low: u32, high: u32) -> Result<(u32, Words<'_>), LineFault>
     requires { HasRoom words }
     ensures { Takes (λ n. Numbered n) (value_at (Number low high)) words.entry result }
 {
     let Some((Word::Plain(bytes), rest)) = words.next() else {
         return Err(wrong(words.number));
     };
-    match judge_number(bytes, words.number, low, high) {
-        Ok(number) => Ok((number, rest)),
+    match judge_number(bytes, words.number, u64::from(low), u64::from(high)) {
+        Ok(number) => Ok((number as u32, rest)),
         Err(fault) => Err(fault),
     }
 }
@@ -125,7 +125,8 @@ pub fn take_off(words: Words<'_>) -> Result<(bool, Words<'_>), LineFault>
 }
 
 fn judge_number(bytes: &[u8], word: u32, low: u64, high: u64) -> Result<u64, LineFault>
-    ensures { Gives (λ n. Numbered n) result (number_at low high word bytes.now) }
+    ensures is { Gives (λ n. Numbered n) result (number_at low high word bytes.now) }
+    ensures within { IfOk result (λ n. n ≤ high) }
 {
     if is_number(bytes) {
         let number = number_of(bytes);

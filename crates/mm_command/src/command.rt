@@ -54,11 +54,11 @@ pub enum Command<'a> {
     },
     /// SET UNDO n, from 0 to 1,000 edits.
     SetUndo {
-        n: u64,
+        n: u32,
     },
     /// SET UNIFICATION_TIMEOUT n, from 1 to 10,000,000 trials.
     SetTrials {
-        n: u64,
+        n: u32,
     },
     /// SET BRACKETS ON or OFF.
     SetBrackets {
@@ -85,7 +85,7 @@ pub enum Command<'a> {
     },
     /// DEMO n, from 1 to 1,000 theorems.
     Demo {
-        n: u64,
+        n: u32,
     },
     /// EXIT or QUIT, with /FORCE.
     Exit {
@@ -119,7 +119,7 @@ pub enum Command<'a> {
     /// UNIFY STEP step, with /CHOICE n, from 1 to 4,294,967,295.
     UnifyStep {
         step: StepWord,
-        choice: Option<u64>,
+        choice: Option<u32>,
     },
     /// UNIFY ALL.
     UnifyAll,
@@ -140,12 +140,12 @@ pub enum Command<'a> {
     /// IMPROVE step, with /DEPTH n, from 0 to 100, and /NO_DISTINCT.
     Improve {
         step: StepWord,
-        depth: Option<u64>,
+        depth: Option<u32>,
         no_distinct: bool,
     },
     /// IMPROVE ALL, with the same qualifiers.
     ImproveAll {
-        depth: Option<u64>,
+        depth: Option<u32>,
         no_distinct: bool,
     },
     /// MINIMIZE_WITH pattern, with /EXCEPT, /FORBID and /NO_NEW_AXIOMS_FROM, each with a pattern, /MAY_GROW and /OVERRIDE.

@@ -16,7 +16,7 @@ use crate::words::Words;
 /// What IMPROVE is given.
 #[derive(Clone, Copy)]
 pub struct ImproveGiven {
-    pub depth: Option<u64>,
+    pub depth: Option<u32>,
     pub no_distinct: bool,
 }
 
@@ -40,7 +40,7 @@ pub struct SaveGiven {
 
 /// The end of UNIFY STEP, where this choice is given already.
 #[tactic(auto, unfolding(crate::specs::Grammar::given_of))]
-pub fn take_choice(words: Words<'_>, choice: Option<u64>) -> Result<Option<u64>, LineFault>
+pub fn take_choice(words: Words<'_>, choice: Option<u32>) -> Result<Option<u32>, LineFault>
     requires { HasRoom words }
     ensures { GivesGiven (λ n. number_value n ∷ []) choice_qualifiers (number_value choice ∷ []) words.entry result }
 {
@@ -59,8 +59,8 @@ fn add_choice(
     words: Words<'_>,
     place: usize,
     keyword: u32,
-    choice: Option<u64>,
-) -> Result<(Option<u64>, Words<'_>), LineFault>
+    choice: Option<u32>,
+) -> Result<(Option<u32>, Words<'_>), LineFault>
     requires room { HasRoom words }
     requires within { place < 1 }
     ensures { Adds (λ n. number_value n ∷ []) choice_qualifiers (number_value choice ∷ []) place keyword words.entry result }

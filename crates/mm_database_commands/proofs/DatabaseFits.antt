@@ -1,6 +1,5 @@
 -- The plans of the commands on the database fit a sound state.
 use Rattle.std.proofs.Common.{◌≡◌, ℕ, Bool, true, false, is_ok, is_some, List, [], ◌∷◌, All, Option, None, Some, Result, Ok, Err, refl, sym, ◌∙◌, ap, subst}
-use Rattle.std.specs.List.{list_any}
 use Rattle.mm_base.specs.Files.{Map}
 use Rattle.mm_scope.specs.Contents.{is_read}
 use Rattle.mm_scope.specs.Databases.{database_of as contents_of}
@@ -14,12 +13,11 @@ use Rattle.mm_shell.specs.Fitting.{IsLoading, IsFit, Fits, PlanFits}
 use Rattle.mm_shell.specs.OpenProofs.{ProofState}
 use Rattle.mm_shell.specs.declared.state.State.{State}
 use Rattle.mm_shell.specs.declared.refusal.Refusal.{Refusal}
-use Rattle.mm_shell.specs.declared.refusal.Refusal.TheVariants.{AlreadyRead, BadDatabase, NoDatabase, NoFile, NotBuilt, NotBuiltHere, ProofOpen}
+use Rattle.mm_shell.specs.declared.refusal.Refusal.TheVariants.{AlreadyRead, BadDatabase, NoDatabase, NoFile, NotBuilt, ProofOpen}
 use Rattle.mm_shell.specs.declared.report.Report.TheVariants.{Verified}
-use Rattle.mm_stack.specs.Decoding.{is_compressed}
 use Rattle.mm_shell.proofs.FindLemmas.{found_is}
 use Rattle.mm_shell.proofs.FitLemmas.{rows_fit, given_fits, done_fits, rows_plan, given_plan, answer_plan}
-use Rattle.mm_database_commands.specs.Commands.{IsTheorem, checked, loaded, read, verify, write, database_plan}
+use Rattle.mm_database_commands.specs.Commands.{IsTheorem, checked, loaded, read, trace_back, usage, verify, write, database_plan}
 use Rattle.mm_database_commands.proofs.VerifyLemmas.{all_checked, meant_theorems}
 
 -- ## READ
@@ -46,16 +44,18 @@ read_fits s name = at s.open_proof refl s.database refl where
 
 -- ## VERIFY PROOF
 
-checks_fit : (s : State) (bytes : List ℕ) (ids : List ℕ) → s.database ≡ Some bytes → All (IsTheorem bytes) ids → (compressed : Bool) → list_any (is_compressed bytes) ids ≡ compressed
-    → Fits Nowhere s (unless ((compressed, NotBuiltHere) ∷ []) (reports (Verified bytes (checked bytes ids))))
-unfolding Fits unless
-checks_fit s bytes ids here all true e = tt
-checks_fit s bytes ids here all false e = (tt, tt, record { here = here; each = all_checked bytes ids all e })
-
 verify_fits : (s : State) (word : List ℕ) → Fits Nowhere s (verify s word)
 verify_fits s word =
     given_fits Nowhere s _ _ (λ bytes is. given_fits Nowhere s _ _ (λ ids found.
-    checks_fit s bytes ids (found_is s.database NoDatabase bytes is) (meant_theorems bytes word ids (sym found)) (list_any (is_compressed bytes) ids) refl))
+    done_fits Nowhere s _ tt tt (record { here = found_is s.database NoDatabase bytes is; each = all_checked bytes ids (meant_theorems bytes word ids (sym found)) })))
+
+-- ## SHOW TRACE_BACK and SHOW USAGE
+
+trace_back_fits : (s : State) (label : List ℕ) (only_axioms : Bool) → Fits Nowhere s (trace_back s label only_axioms)
+trace_back_fits s label only_axioms = given_fits Nowhere s _ _ (λ bytes is. given_fits Nowhere s _ _ (λ id found. done_fits Nowhere s _ tt tt tt))
+
+usage_fits : (s : State) (label : List ℕ) (recursive : Bool) → Fits Nowhere s (usage s label recursive)
+usage_fits s label recursive = given_fits Nowhere s _ _ (λ bytes is. given_fits Nowhere s _ _ (λ id found. done_fits Nowhere s _ tt tt tt))
 
 -- ## WRITE SOURCE
 
@@ -67,6 +67,8 @@ pub database_fits : (m : Meaning) (s : State) → PlanFits s (database_plan m s)
 unfolding database_plan Fits
 database_fits (meaning.Read name) s = read_fits s name
 database_fits (meaning.VerifyProof pattern) s = answer_plan s _ (verify_fits s pattern)
+database_fits (meaning.ShowTraceBack label axioms) s = answer_plan s _ (trace_back_fits s label axioms)
+database_fits (meaning.ShowUsage label recursive) s = answer_plan s _ (usage_fits s label recursive)
 database_fits (meaning.WriteSource name) s = write_fits s name
 database_fits _ s = λ map. tt
 
@@ -108,6 +110,8 @@ pub database_origin : (m : Meaning) (s : State) (map : Map) (bytes : List ℕ) �
 unfolding database_plan
 database_origin (meaning.Read name) s map bytes e = record { name = name; is = refl; found = read_origin s name map bytes e }
 database_origin (meaning.VerifyProof pattern) s map bytes e = absurd (no_origin (verify s pattern) map bytes e)
+database_origin (meaning.ShowTraceBack label axioms) s map bytes e = absurd (no_origin (trace_back s label axioms) map bytes e)
+database_origin (meaning.ShowUsage label recursive) s map bytes e = absurd (no_origin (usage s label recursive) map bytes e)
 database_origin (meaning.WriteSource name) s map bytes e = absurd (write_origin s name map bytes e)
 database_origin _ s map bytes e = cc
 

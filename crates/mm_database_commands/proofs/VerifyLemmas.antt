@@ -1,14 +1,11 @@
 -- The theorems that a word means, and the checks of their proofs.
 use Rattle.std.proofs.Common.{◌≡◌, ◌<◌, ◌≤◌, ◌+◌, ◌&&◌, ◌||◌, ℕ, Bool, true, false, cond, List, [], ◌∷◌, ◌++◌, length, map, filter, take, get_or, All, Result, Ok, Err, refl, sym, ◌∙◌, ap, subst, arith, true≢false, if◌then◌else◌}
 use Rattle.std.specs.List.{AllByRecursion, list_any, range_with_len}
-use Rattle.std.proofs.lemmas.Bool.{false_from_ne_true}
 use Rattle.std.proofs.lemmas.List.Elements.{All-from_get_or, All-from_recursion, All-map, recursion_from_All}
-use Rattle.std.proofs.lemmas.List.Folds.{list_any_at}
 use Rattle.std.proofs.lemmas.List.FromFn.{filter_of_map_range_with_len_more, get_or-range_with_len, length-range_with_len}
 use Rattle.mm_scope.specs.Contents.{labels_of, stated_at}
 use Rattle.mm_stated.specs.declared.statement.Kind.{Kind}
 use Rattle.mm_stated.specs.declared.statement.Kind.TheVariants.{Theorem}
-use Rattle.mm_stack.specs.Decoding.{is_compressed}
 use Rattle.mm_plain.specs.Labels.{label_at}
 use Rattle.mm_trace.specs.Patterns.{matches}
 use Rattle.mm_shell.specs.Answers.{given}
@@ -77,13 +74,9 @@ meant_theorems bytes word ids is = let e : theorems_meant bytes word ≡ Ok ids 
 
 -- ## The checks
 
-normal_at : (bytes : List ℕ) (ids : List ℕ) → list_any (is_compressed bytes) ids ≡ false → (k d : ℕ) → k < length ids → is_compressed bytes (get_or ids k d) ≡ false
-normal_at bytes ids none k d small = false_from_ne_true _ (λ e. true≢false (sym (list_any_at (is_compressed bytes) ids k d small e) ∙ none))
-
-pub all_checked : (bytes : List ℕ) (ids : List ℕ) → All (IsTheorem bytes) ids → list_any (is_compressed bytes) ids ≡ false → All (IsChecked bytes) (checked bytes ids)
-all_checked bytes ids all none = All-map (IsChecked bytes) (check_of bytes) ids (λ k d small. record {
+pub all_checked : (bytes : List ℕ) (ids : List ℕ) → All (IsTheorem bytes) ids → All (IsChecked bytes) (checked bytes ids)
+all_checked bytes ids all = All-map (IsChecked bytes) (check_of bytes) ids (λ k d small. record {
   own = (all k d small).own;
   theorem = (all k d small).kind;
-  normal = normal_at bytes ids none k d small;
   is = refl;
 })

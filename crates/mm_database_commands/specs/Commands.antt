@@ -9,25 +9,22 @@ use Rattle.mm_scope.specs.declared.fault.ReadFault.{ReadFault}
 use Rattle.mm_scope.specs.declared.fault.ReadFault.TheVariants.{Memory}
 use Rattle.mm_stated.specs.declared.statement.Kind.TheVariants.{Axiom, Theorem}
 use Rattle.mm_stack.specs.Accepting.{verdict_of}
-use Rattle.mm_stack.specs.Decoding.{is_compressed}
-use Rattle.mm_stack.specs.declared.outcome.VerifyFault.{VerifyFault}
-use Rattle.mm_stack.specs.declared.outcome.VerifyFault.TheVariants as fault
-use Rattle.mm_stack.specs.declared.outcome.VerifyFault.TheVariants.{Compressed}
 use Rattle.mm_plain.specs.Labels.{label_at}
 use Rattle.mm_trace.specs.Patterns.{matches}
+use Rattle.mm_trace.specs.Uses.{axioms, depended_on, dependents, users}
 use Rattle.mm_command.specs.Meanings as meaning
 use Rattle.mm_command.specs.Meanings.{Meaning}
 use Rattle.mm_shell.specs.Actions.{Action, Does, Fetches, Puts, Plan, plan_takes, without_files}
 use Rattle.mm_shell.specs.Answers.{Answer, unless, given, found_or, or_refusal, reports}
-use Rattle.mm_shell.specs.Finding.{database_of, is_theorem, theorem_named}
+use Rattle.mm_shell.specs.Finding.{database_of, is_theorem, statement_named, theorem_named}
 use Rattle.mm_shell.specs.declared.checks.Check.{Check}
 use Rattle.mm_shell.specs.declared.state.State.{State}
-use Rattle.mm_shell.specs.declared.answer.Change.TheVariants.{Loads, Writes}
+use Rattle.mm_shell.specs.declared.answer.Change.TheVariants.{Loads, Stays, Writes}
 use Rattle.mm_shell.specs.declared.answer.Done.{Done}
 use Rattle.mm_shell.specs.declared.refusal.Refusal.{Refusal}
-use Rattle.mm_shell.specs.declared.refusal.Refusal.TheVariants.{AlreadyRead, NoFile, BadDatabase, ProofOpen, OutOfMemory, NotBuilt, NotBuiltHere}
+use Rattle.mm_shell.specs.declared.refusal.Refusal.TheVariants.{AlreadyRead, NoFile, BadDatabase, ProofOpen, OutOfMemory, NotBuilt}
 use Rattle.mm_shell.specs.declared.report.Report.{Report}
-use Rattle.mm_shell.specs.declared.report.Report.TheVariants.{Loaded, Verified, Wrote}
+use Rattle.mm_shell.specs.declared.report.Report.TheVariants.{Listed, Loaded, Verified, Wrote}
 use Rattle.mm_database_commands.specs.declared.call.Call.{Call}
 use Rattle.mm_database_commands.specs.declared.call.Call.TheVariants as call
 
@@ -83,8 +80,33 @@ abbrev pub verify : State → List ℕ → Answer
 verify s word =
     given (database_of s) (λ bytes.
     given (theorems_meant bytes word) (λ ids.
-    unless ((list_any (is_compressed bytes) ids, NotBuiltHere) ∷ [])
-    (reports (Verified bytes (checked bytes ids)))))
+    reports (Verified bytes (checked bytes ids))))
+
+-- ## SHOW TRACE_BACK and SHOW USAGE
+
+-- what is done where statements are listed
+abbrev pub listing : List ℕ → List ℕ → Done
+listing bytes ids = record { report = Listed bytes ids; change = Stays }
+
+-- the statements on which one depends, or the axioms among them
+abbrev pub traced : List ℕ → Bool → ℕ → List ℕ
+traced bytes only_axioms id = if only_axioms then axioms bytes id else depended_on bytes id
+
+abbrev pub trace_back : State → List ℕ → Bool → Answer
+trace_back s label only_axioms =
+    given (database_of s) (λ bytes.
+    given (statement_named bytes label) (λ id.
+    Ok (listing bytes (traced bytes only_axioms id))))
+
+-- the statements that use one, or that depend on it
+abbrev pub served : List ℕ → Bool → ℕ → List ℕ
+served bytes recursive id = if recursive then dependents bytes id else users bytes id
+
+abbrev pub usage : State → List ℕ → Bool → Answer
+usage s label recursive =
+    given (database_of s) (λ bytes.
+    given (statement_named bytes label) (λ id.
+    Ok (listing bytes (served bytes recursive id))))
 
 -- ## WRITE SOURCE
 
@@ -100,6 +122,8 @@ write s name = given (database_of s) (λ bytes. Ok (Puts name bytes (writing (Wr
 unfoldable pub database_plan : Meaning → State → Plan
 database_plan (meaning.Read name) s = read s name
 database_plan (meaning.VerifyProof pattern) s = without_files (verify s pattern)
+database_plan (meaning.ShowTraceBack label axioms) s = without_files (trace_back s label axioms)
+database_plan (meaning.ShowUsage label recursive) s = without_files (usage s label recursive)
 database_plan (meaning.WriteSource name) s = write s name
 database_plan _ s = Err NotBuilt
 
@@ -119,12 +143,6 @@ action_of (call.Puts name bytes report) = Puts name bytes (writing report)
 pub record IsTheorem (bytes : List ℕ) (id : ℕ) : Type 0 where
   pub own : id < length (labels_of bytes)
   pub kind : (stated_at bytes id).kind ≡ Theorem
-
--- The proofs of theorems are checked, and none is compressed; or one is. Nothing is said out of memory.
-abbrev pub AreChecked : List ℕ → List ℕ → Result (List Check) VerifyFault → Type 0
-AreChecked bytes ids (Ok checks) = (list_any (is_compressed bytes) ids ≡ false) × (checks ≡ checked bytes ids)
-AreChecked bytes ids (Err Compressed) = list_any (is_compressed bytes) ids ≡ true
-AreChecked bytes ids (Err fault.Memory) = Unit {0}
 
 -- A result is this plan; memory may run out where the plan takes some.
 abbrev pub Plans : Plan → Result Call Refusal → Type 0

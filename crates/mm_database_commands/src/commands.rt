@@ -4,6 +4,7 @@ ghost use Rattle.mm_database_commands.specs.Commands.{HasName, Plans, PutsUnderN
 
 use crate::call::Call;
 use crate::read::read;
+use crate::trace::{trace_back, usage};
 use crate::verify::verify;
 use crate::write::write;
 use mm_command::Command;
@@ -24,6 +25,12 @@ pub fn plan<'a>(
     match command {
         Command::Read { file } => read(state, file),
         Command::VerifyProof { pattern } => Ok(Call::Does(verify(alloc, state, pattern)?)),
+        Command::ShowTraceBack { label, axioms } => {
+            Ok(Call::Does(trace_back(alloc, state, label, axioms)?))
+        }
+        Command::ShowUsage { label, recursive } => {
+            Ok(Call::Does(usage(alloc, state, label, recursive)?))
+        }
         Command::WriteSource { file } => write(state, file),
         _ => Err(Refusal::NotBuilt),
     }

@@ -4,6 +4,7 @@
 mod call;
 mod commands;
 mod read;
+mod trace;
 mod verify;
 mod write;
 

@@ -1,14 +1,13 @@
 ghost use Rattle.std.specs.Prelude.{◌≡◌, ◌<◌, ◌∷◌, ◌++◌, [], All, IfOk, OnOk, cond, length};
 ghost use Rattle.mm_scope.specs.Contents.{labels_of};
 ghost use Rattle.mm_shell.specs.Answers.{Answers, Gives, seen};
-ghost use Rattle.mm_database_commands.specs.Commands.{AreChecked, IsTheorem, is_meant, is_pattern, theorems_matched, theorems_meant, verify};
+ghost use Rattle.mm_database_commands.specs.Commands.{IsTheorem, checked, is_meant, is_pattern, theorems_matched, theorems_meant, verify};
 
 use mm_scope::{Database, Kind, StmtId};
 use mm_shell::{
     Change, Check, Checks, DatabaseRef, Done, Refusal, Report, State, find_database, find_theorem,
     label_of,
 };
-use mm_stack::VerifyFault;
 use mm_trace::matches;
 use std::alloc::{AllocError as Memory, Global};
 
@@ -19,14 +18,11 @@ pub fn verify<'a>(alloc: Global, state: &'a State, word: &'a [u8]) -> Result<Don
 {
     let database = find_database(state)?;
     let theorems = theorems_meant(alloc, database, word)?;
-    match check_all(alloc, database, theorems.as_slice()) {
-        Ok(checks) => Ok(Done {
-            report: Report::Verified(DatabaseRef::new(database), checks),
-            change: Change::Stays,
-        }),
-        Err(VerifyFault::Compressed) => Err(Refusal::NotBuiltHere),
-        Err(VerifyFault::Memory) => Err(Refusal::OutOfMemory),
-    }
+    let checks = check_all(alloc, database, theorems.as_slice())?;
+    Ok(Done {
+        report: Report::Verified(DatabaseRef::new(database), checks),
+        change: Change::Stays,
+    })
 }
 
 // The theorems that a word means: those that a pattern matches, or the one with a label.
@@ -89,9 +85,9 @@ fn is_meant(database: &Database, id: StmtId, pattern: &[u8]) -> bool
 }
 
 // What becomes of the proofs of theorems.
-fn check_all(alloc: Global, database: &Database, theorems: &[u32]) -> Result<Checks, VerifyFault>
+fn check_all(alloc: Global, database: &Database, theorems: &[u32]) -> Result<Checks, Memory>
     requires { All (IsTheorem database.now) theorems.now }
-    ensures { AreChecked database.now theorems.now result }
+    ensures { IfOk result (λ checks. checks ≡ checked database.now theorems.now) }
 {
     let mut checks = Checks::new(alloc);
     for id in theorems {

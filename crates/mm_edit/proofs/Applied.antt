@@ -76,7 +76,7 @@ only-among P Whole [] u a h = cc
 only-among P Whole (v ∷ []) u a h = let z : v ≡ u = cc in subst P z a.0
 only-among P Whole (v ∷ w ∷ found) u a h = cc
 
-at-place : (P : Pairs → Type 0) (found : List Pairs) (i : ℕ) (f : EditFault) (u : Pairs) → ByRecursion P found → found_or (slice_get found i) f ≡ Ok u → P u
+pub at-place : (P : Pairs → Type 0) (found : List Pairs) (i : ℕ) (f : EditFault) (u : Pairs) → ByRecursion P found → found_or (slice_get found i) f ≡ Ok u → P u
 at-place P [] i f u a h = cc
 at-place P (v ∷ found) zero f u a h = let z : v ≡ u = cc in subst P z a.0
 at-place P (v ∷ found) (suc i) f u a h = at-place P found i f u a.1 h

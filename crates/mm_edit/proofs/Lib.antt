@@ -6,6 +6,7 @@ pub mod Measures
 pub mod Fitting
 pub mod Outcomes
 pub mod Naming
+pub mod Marks
 pub mod Kept
 pub mod Pending
 pub mod Unifiers
@@ -17,3 +18,11 @@ pub mod Falling
 pub mod Initializing
 pub mod Deleting
 pub mod Replacing
+pub mod Short
+pub mod Listings
+pub mod TryingLemmas
+pub mod AssignLemmas
+pub mod UnifyLemmas
+pub mod FirstLemmas
+pub mod FreshLemmas
+pub mod RoundLemmas

@@ -39,22 +39,16 @@ use Rattle.mm_edit.specs.Assigning.{draws, named, listed_named}
 use Rattle.mm_edit.specs.Keeping.{IsKept, IsProofOf}
 use Rattle.mm_edit.specs.Listed.{only_unifier}
 use Rattle.mm_edit.specs.Replacing.{number_cleared, number_over, first_with, refilled_layer, refilled, refilled_in, are_long, refilling, replaced}
-use Rattle.mm_edit.specs.Steps.{children_layer, children_of, has_many, is_deep}
+use Rattle.mm_plain.specs.Children.{children_of}
+use Rattle.mm_plain.proofs.Children.{children_of-unknown, children_of-known}
+use Rattle.mm_edit.specs.Steps.{has_many, is_deep}
 use Rattle.mm_edit.specs.declared.edit_fault.EditFault.{EditFault}
 use Rattle.mm_edit.proofs.Applied.{applying-ok, binding-only, stands-there}
 use Rattle.mm_edit.proofs.Assigning.{IsNaming, raised_for, fits-named, binding-named, not-above, from-not}
-use Rattle.mm_edit.proofs.Deleting.{target-sound}
+use Rattle.mm_plain.proofs.Floats.{target-sound}
 use Rattle.mm_edit.proofs.Falling.{same-string}
 
 -- the children of a step
-
-pub children_of-unknown : (t : List WSym) → children_of (unknown t) ≡ []
-unfolding children_of
-children_of-unknown t = ap children_layer (V.out-roll-Plain (L.Unknown t))
-
-pub children_of-known : (t : List WSym) (l : ℕ) (s : Pairs) (kids : List Plain) → children_of (known t l s kids) ≡ kids
-unfolding children_of
-children_of-known t l s kids = ap children_layer (V.out-roll-Plain (L.Known t l s kids))
 
 children-sound : (c : Setting) (x : Plain) → IsSound c x → Each (IsSound c) (children_of x)
 children-sound c = by_trees (λ x. IsSound c x → Each (IsSound c) (children_of x))

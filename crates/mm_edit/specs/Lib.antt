@@ -12,3 +12,5 @@ pub mod Unifying
 pub mod Initializing
 pub mod Deleting
 pub mod Keeping
+pub mod Edited
+pub mod Trying

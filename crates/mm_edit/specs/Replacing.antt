@@ -7,6 +7,7 @@ use Rattle.mm_subst.specs.declared.symbol.WSym.{WSym}
 use Rattle.mm_subst.specs.Symbols.{is_same}
 use Rattle.mm_unify.specs.declared.listing.Settings.{Settings}
 use Rattle.mm_unify.specs.Search.{Answer}
+use Rattle.mm_plain.specs.Children.{children_of}
 use Rattle.mm_plain.specs.declared.plain.Plain.{Plain}
 use Rattle.mm_plain.specs.declared.plain.Plain.TheOpen.{Plain-F}
 use Rattle.mm_plain.specs.declared.plain.Plain.TheOpen as P
@@ -18,7 +19,7 @@ use Rattle.mm_plain.specs.Shape.{Proof, unknown, known, size_of, step_at, target
 use Rattle.mm_edit.specs.Applying.{applying_only, bound_by}
 use Rattle.mm_edit.specs.Assigning.{draws, named, listed_named}
 use Rattle.mm_edit.specs.Listed.{has_none, only_unifier}
-use Rattle.mm_edit.specs.Steps.{children_of, has_step, is_unknown, not_standing, is_spent, has_many, is_deep}
+use Rattle.mm_edit.specs.Steps.{has_step, is_unknown, not_standing, is_spent, has_many, is_deep}
 use Rattle.mm_edit.specs.declared.edit_fault.EditFault.{EditFault}
 use Rattle.mm_edit.specs.declared.edit_fault.EditFault.TheVariants.{NoSuchStep, StepUnknown, TooManySteps, TooDeep, WorkSpent, NoUnifier, TooLong}
 

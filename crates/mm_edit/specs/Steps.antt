@@ -1,12 +1,8 @@
 -- What an edit asks of the step that it is given, and of the proof that it would make.
-use Rattle.std.specs.Prelude.{ℕ, ◌+◌, Bool, not, ◌&&◌, List, [], is_none, is_some, nat_le, nat_lt, if◌then◌else◌, length}
-use Rattle.std.specs.List.{list_any}
+use Rattle.std.specs.Prelude.{ℕ, ◌+◌, Bool, ◌&&◌, List, is_none, nat_le, nat_lt, if◌then◌else◌}
 use Rattle.mm_scope.specs.Contents.{stated_at}
 use Rattle.mm_stated.specs.Stated.{is_hypothesis}
 use Rattle.mm_plain.specs.declared.plain.Plain.{Plain}
-use Rattle.mm_plain.specs.declared.plain.Plain.TheOpen.{Plain-F}
-use Rattle.mm_plain.specs.declared.plain.Plain.TheOpen as P
-use Rattle.mm_plain.specs.declared.plain.Plain.TheViews as V
 use Rattle.mm_plain.specs.Shape.{Proof, size_of, height_of, step_at}
 use Rattle.mm_plain.specs.Sources.{label_of}
 use Rattle.mm_plain.specs.Valid.{most_works, most_steps, most_levels}
@@ -35,11 +31,3 @@ has_many p = nat_lt most_steps (size_of p.plain)
 
 abbrev pub is_deep : Proof → Bool
 is_deep p = nat_lt most_levels (height_of p.plain)
-
-abbrev pub children_layer : Plain-F Plain → List Plain
-children_layer (P.Unknown t) = []
-children_layer (P.Known t l s kids) = kids
-
--- the trees of a step's children, in order
-unfoldable pub children_of : Plain → List Plain
-children_of x = children_layer (V.out-Plain x)

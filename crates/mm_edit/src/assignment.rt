@@ -8,6 +8,7 @@ ghost use Rattle.mm_plain.specs.Premises.{premises_of};
 ghost use Rattle.mm_plain.specs.Shape.{placed, size_of, step_at, target_of};
 ghost use Rattle.mm_plain.specs.Sources.{label_of};
 ghost use Rattle.mm_plain.specs.Valid.{IsValid};
+ghost use Rattle.mm_tree.specs.Versions.{BeginsAlike, KeepsMarks};
 ghost use Rattle.mm_match.specs.Matches.{MayBeNamed};
 ghost use Rattle.mm_match.specs.declared.matched.Matched.TheVariants.{Unique};
 ghost use Rattle.mm_edit.specs.Ways.{matched_of};
@@ -106,8 +107,9 @@ fn substitution(
 
 /// Assigns a statement to the last unknown step of the proof of a theorem: the step is made known, with the one match of
 /// the statement with the string of the step, over an unknown step for each mandatory hypothesis of the statement. Where
-/// that is refused the tree is as before.
-pub fn assign<L: Ledger>(
+/// that is refused the tree is as before. Each mark that is alive stays alive.
+#[tactic(auto, using(crate::proofs::Marks::marks_stay))]
+pub fn assign_only_match<L: Ledger>(
     alloc: Global,
     db: &Database,
     at: StmtId,
@@ -118,6 +120,8 @@ pub fn assign<L: Ledger>(
     requires at { at.0 < length (labels_of db.now) }
     requires own { id.0 < length (labels_of db.now) }
     ensures assigned { IsEdited (assignment db.now at.0 tree.old.proof id.0) result tree.old tree.new }
+    ensures marks { KeepsMarks tree.old.versions tree.new.versions }
+    ensures begun { BeginsAlike tree.old.versions tree.new.versions }
     // A proof that is valid for the theorem stays valid.
     ensures valid { OnOk result ((goal : List WSym) → IsValid db.now at.0 goal tree.old.proof → IsValid db.now at.0 goal tree.new.proof) }
     ensures cost { steps.new ≤ steps.old + (depth_of_last tree.old.proof.plain (last_unknown_of (labels_in tree.old.proof.plain)) + 1 + length (premises_of db.now id.0)) }

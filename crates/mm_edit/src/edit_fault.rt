@@ -1,8 +1,10 @@
 //! Why a proof is not edited.
 
 ghost use Rattle.std.specs.Prelude.{◌≡◌};
-ghost use Rattle.mm_edit.specs.declared.edit_fault.EditFault.TheVariants.{Memory};
+ghost use Rattle.mm_edit.specs.Edited.{edit_fault_of, graft_fault_of};
+ghost use Rattle.mm_edit.specs.declared.edit_fault.EditFault.TheVariants.{Memory, WorkSpent};
 
+use mm_tree::{BindFault, GraftFault, WorkSpent};
 use std::alloc::AllocError;
 use thiserror::Error;
 
@@ -70,5 +72,36 @@ impl From<AllocError> for EditFault {
 
     fn from(_e: AllocError) -> EditFault {
         EditFault::Memory
+    }
+}
+
+impl From<BindFault> for EditFault {
+    ghost from_gives = { λ b e. e ≡ edit_fault_of b };
+
+    fn from(fault: BindFault) -> EditFault {
+        match fault {
+            BindFault::TooLong(step) => EditFault::TooLong(step),
+            BindFault::Memory => EditFault::Memory,
+        }
+    }
+}
+
+impl From<GraftFault> for EditFault {
+    ghost from_gives = { λ g e. e ≡ graft_fault_of g };
+
+    fn from(fault: GraftFault) -> EditFault {
+        match fault {
+            GraftFault::TooManySteps => EditFault::TooManySteps,
+            GraftFault::TooDeep => EditFault::TooDeep,
+            GraftFault::Memory => EditFault::Memory,
+        }
+    }
+}
+
+impl From<WorkSpent> for EditFault {
+    ghost from_gives = { λ _ e. e ≡ WorkSpent };
+
+    fn from(_e: WorkSpent) -> EditFault {
+        EditFault::WorkSpent
     }
 }

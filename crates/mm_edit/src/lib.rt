@@ -1,12 +1,26 @@
 //! The commands that edit a proof.
 #![tactic(auto)]
 
+mod assign_step;
 mod assignment;
+mod checks;
+mod deletion;
 mod edit_fault;
 mod fault;
+mod fresh;
+mod going_back;
 mod laws;
+mod let_value;
+mod listing;
+mod unification;
+mod unify_rounds;
 
-pub use assignment::assign;
+pub use assign_step::assign;
+pub use assignment::assign_only_match;
+pub use deletion::{delete, delete_floats};
 pub use edit_fault::EditFault;
 pub use fault::AssignFault;
 pub use laws::{accepted_edits_keep_proofs_valid, unify_all_leaves_no_only_unifier};
+pub use let_value::{let_step, let_variable};
+pub use unification::{UnifyFault, unify_step};
+pub use unify_rounds::unify_all;

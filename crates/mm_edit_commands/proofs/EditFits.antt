@@ -18,6 +18,7 @@ use Rattle.mm_shell.specs.declared.state.State.{State}
 use Rattle.mm_shell.specs.declared.refusal.Refusal.{Refusal}
 use Rattle.mm_shell.specs.declared.refusal.Refusal.TheVariants.{Guarded, NoStatement}
 use Rattle.mm_shell.proofs.FindLemmas.{proof_found}
+use Rattle.mm_shell.proofs.HistoryLemmas.{edited_open}
 use Rattle.mm_shell.proofs.FitLemmas.{rows_fit, given_fits, done_fits, rows_end}
 use Rattle.mm_edit_commands.specs.Edits.{Edit, assign, assign_refusal, counts_of, edit_of, edit_in, edits, edit_answer}
 
@@ -36,7 +37,7 @@ assign_keeps bytes theorem p q label guarded_too valid e = at (find_label bytes 
   at None e = cc
   at (Some id) e = (assignment_keeps bytes theorem (statement_of bytes theorem) p q id valid (ok_by (assignment bytes theorem p id) (assign_refusal label) q (rows_end ((is_forbidden guarded_too bytes id, Guarded label) ∷ []) _ q e))).0
 
-edit_keeps : (m : Meaning) (bytes : List ℕ) (theorem : ℕ) (p q : Proof) → IsProofOf bytes theorem p → edit_of m bytes theorem p ≡ Ok q → IsProofOf bytes theorem q
+pub edit_keeps : (m : Meaning) (bytes : List ℕ) (theorem : ℕ) (p q : Proof) → IsProofOf bytes theorem p → edit_of m bytes theorem p ≡ Ok q → IsProofOf bytes theorem q
 unfolding edit_of
 edit_keeps (meaning.Assign step label guarded_too) bytes theorem p q valid e = assign_keeps bytes theorem p q label guarded_too valid e
 edit_keeps _ bytes theorem p q valid e = cc
@@ -47,7 +48,7 @@ edit_open : (bytes : List ℕ) (p : ProofState) (r : Result Proof Refusal) (e : 
     → given r (λ q. Ok (record { counts = counts_of bytes q; open_proof = after_edit p q })) ≡ Ok e → IsOpenIn bytes e.open_proof
 unfolding given
 edit_open bytes p (Ok q) e h keeps is =
-    subst (IsOpenIn bytes) (same_proof (record { counts = counts_of bytes q; open_proof = after_edit p q }) e is) (record { own = h.own; theorem = h.theorem; valid = keeps q refl; past = h.past; future = h.future })
+    subst (IsOpenIn bytes) (same_proof (record { counts = counts_of bytes q; open_proof = after_edit p q }) e is) (edited_open bytes p q h (keeps q refl))
   where
     same_proof : (a b : Edit) → (let x : Result Edit Refusal = Ok a in x) ≡ Ok b → a.open_proof ≡ b.open_proof
     same_proof a b e = let same : a ≡ b = cc in ap (λ (x : Edit). x.open_proof) same

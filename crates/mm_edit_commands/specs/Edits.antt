@@ -1,7 +1,6 @@
 -- What each edit of the open proof means, and what it comes to.
 use Rattle.std.specs.Prelude.{◌≡◌, not, ℕ, Bool, true, false, List, [], ◌∷◌, Result, Ok, Err}
 use Rattle.mm_plain.specs.Shape.{Proof, size_of}
-use Rattle.mm_tree.specs.Trees as trees
 use Rattle.mm_edit.specs.Counts.{unknown_count, pending_count}
 use Rattle.mm_edit.specs.Outcome.{assignment}
 use Rattle.mm_edit.specs.declared.fault.AssignFault.{AssignFault}
@@ -65,7 +64,7 @@ pub record Edit : Type 0 where
 abbrev pub counts_of : List ℕ → Proof → Counts
 counts_of bytes p = record { steps = size_of p.plain; unknown = unknown_count p.plain; pending = pending_count bytes p.plain }
 
--- the one ending of every edit: the steps are counted, and the open proof is marked as changed
+-- the one ending of every edit: the steps are counted, and the proof before it is kept
 abbrev pub edit_in : Meaning → List ℕ → ProofState → Result Edit Refusal
 edit_in m bytes p = given (edit_of m bytes p.theorem p.proof) (λ q. Ok (record { counts = counts_of bytes q; open_proof = after_edit p q }))
 
@@ -88,11 +87,11 @@ abbrev pub edit_takes : {A : Type 0} → Result A Refusal → Bool
 edit_takes (Ok a) = true
 edit_takes (Err r) = refusal_takes r
 
--- A tree is edited so, with the number of steps that are pending then. Where the edit is refused, the tree is as it was.
-abbrev pub EditsTree : List ℕ → Result Proof Refusal → trees.State → Result ℕ Refusal → trees.State → Type 0
-EditsTree bytes meaning before (Ok pending) now = (meaning ≡ Ok now.proof) × (pending ≡ pending_count bytes now.proof.plain)
-EditsTree bytes meaning before (Err OutOfMemory) now = (edit_takes meaning ≡ true) × (now ≡ before)
-EditsTree bytes meaning before (Err r) now = (Err r ≡ meaning) × (now ≡ before)
+-- The proof of a tree is edited so. Where the edit is refused, it is as it was.
+abbrev pub EditsTree : Result Proof Refusal → Proof → Result Unit Refusal → Proof → Type 0
+EditsTree meaning before (Ok u) now = meaning ≡ Ok now
+EditsTree meaning before (Err OutOfMemory) now = (edit_takes meaning ≡ true) × (now ≡ before)
+EditsTree meaning before (Err r) now = (Err r ≡ meaning) × (now ≡ before)
 
 -- The open proof is edited so.
 abbrev pub EditsProof : Result Edit Refusal → ProofState → Result Counts Refusal → ProofState → Type 0

@@ -1,14 +1,13 @@
-ghost use Rattle.std.specs.Prelude.{◌≡◌, ◌<◌, ◌≤◌, IfOk, length};
+ghost use Rattle.std.specs.Prelude.{◌≡◌, ◌<◌, OnErr, length};
 ghost use Rattle.mm_scope.specs.Contents.{labels_of};
-ghost use Rattle.mm_plain.specs.Numbers.{HasOwnLabels};
-ghost use Rattle.mm_plain.specs.Shape.{size_of};
-ghost use Rattle.mm_edit.specs.Counts.{pending_count};
 ghost use Rattle.mm_edit.specs.Outcome.{assignment};
 ghost use Rattle.mm_shell.specs.Answers.{or_refusal};
 ghost use Rattle.mm_shell.specs.Sound.{IsProofOf};
+ghost use Rattle.mm_tree.specs.Versions.{BeginsAlike, HasNoDrafts};
+ghost use Rattle.mm_undo.specs.Histories.{KeepsSettled};
 ghost use Rattle.mm_edit_commands.specs.Edits.{EditsTree, assign, assign_refusal};
 
-use mm_base::{Memory, Steps};
+use mm_base::Steps;
 use mm_edit::AssignFault;
 use mm_scope::{Database, StmtId};
 use mm_shell::{Refusal, Word, find_statement, is_forbidden};
@@ -17,7 +16,7 @@ use std::alloc::Global;
 use std::sync::ledger::Ledger;
 
 /// Assigns the statement with a label to the last unknown step of a proof.
-#[tactic(auto, unfolding(mm_shell::specs::Answers::unless, mm_shell::specs::Answers::given))]
+#[tactic(auto, using(crate::proofs::EditLemmas::settled_stay), unfolding(mm_shell::specs::Answers::unless, mm_shell::specs::Answers::given))]
 pub fn assign<'a, L: Ledger>(
     alloc: Global,
     database: &Database,
@@ -26,10 +25,14 @@ pub fn assign<'a, L: Ledger>(
     label: &'a [u8],
     guarded_too: bool,
     steps: &mut Steps<L>,
-) -> Result<u32, Refusal<'a>>
+) -> Result<(), Refusal<'a>>
     requires at { theorem.0 < length (labels_of database.now) }
     requires valid { IsProofOf database.now theorem.0 tree.old.proof }
-    ensures { EditsTree database.now (assign database.now theorem.0 tree.old.proof label.now guarded_too) tree.old result tree.new }
+    requires settled { HasNoDrafts tree.old.versions }
+    ensures edited { EditsTree (assign database.now theorem.0 tree.old.proof label.now guarded_too) tree.old.proof result tree.new.proof }
+    ensures marks { KeepsSettled tree.old.versions tree.new.versions }
+    ensures begun { BeginsAlike tree.old.versions tree.new.versions }
+    ensures refused { OnErr result (HasNoDrafts tree.new.versions) }
 {
     let id = find_statement(database, label)?;
     if is_forbidden(database, guarded_too, id) {
@@ -38,8 +41,7 @@ pub fn assign<'a, L: Ledger>(
     assign_statement(alloc, database, theorem, tree, id, label, steps)
 }
 
-// Assigns a statement. The pending steps stay as many, and are counted first: after the edit no memory is taken.
-#[tactic(auto, using(crate::proofs::EditLemmas::assignment_takes))]
+// Assigns a statement.
 fn assign_statement<'a, L: Ledger>(
     alloc: Global,
     database: &Database,
@@ -48,16 +50,18 @@ fn assign_statement<'a, L: Ledger>(
     id: StmtId,
     label: &'a [u8],
     steps: &mut Steps<L>,
-) -> Result<u32, Refusal<'a>>
+) -> Result<(), Refusal<'a>>
     requires at { theorem.0 < length (labels_of database.now) }
     requires own { id.0 < length (labels_of database.now) }
-    requires valid { IsProofOf database.now theorem.0 tree.old.proof }
-    ensures { EditsTree database.now (or_refusal (assignment database.now theorem.0 tree.old.proof id.0) (assign_refusal label.now)) tree.old result tree.new }
+    requires settled { HasNoDrafts tree.old.versions }
+    ensures edited { EditsTree (or_refusal (assignment database.now theorem.0 tree.old.proof id.0) (assign_refusal label.now)) tree.old.proof result tree.new.proof }
+    ensures marks { KeepsSettled tree.old.versions tree.new.versions }
+    ensures begun { BeginsAlike tree.old.versions tree.new.versions }
+    ensures refused { OnErr result (HasNoDrafts tree.new.versions) }
 {
-    let pending = pending_count(alloc, database, tree)?;
-    match mm_edit::assign(alloc, database, theorem, tree, id, steps) {
+    match mm_edit::assign_only_match(alloc, database, theorem, tree, id, steps) {
         Err(fault) => Err(refusal_of(fault, label)),
-        Ok(()) => Ok(pending),
+        Ok(()) => Ok(()),
     }
 }
 
@@ -77,14 +81,4 @@ fn refusal_of<'a>(fault: AssignFault, label: &'a [u8]) -> Refusal<'a>
         AssignFault::TooLong => Refusal::TooLong,
         AssignFault::Memory => Refusal::OutOfMemory,
     }
-}
-
-// How many steps are pending.
-fn pending_count(alloc: Global, database: &Database, tree: &Tree) -> Result<u32, Memory>
-    requires own { HasOwnLabels database.now tree.now.proof.plain }
-    requires few { size_of tree.now.proof.plain ≤ 1000000 }
-    ensures { IfOk result (λ count. count ≡ pending_count database.now tree.now.proof.plain) }
-{
-    let pending = tree.pending_steps(alloc, database)?;
-    Ok(pending.len() as u32)
 }

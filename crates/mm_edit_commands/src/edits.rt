@@ -1,17 +1,24 @@
 //! Edits of the open proof: one arm for each, and one ending for all.
 
-ghost use Rattle.std.specs.Prelude.{◌≡◌, ◌<◌, length, true};
+ghost use Rattle.std.specs.Prelude.{◌≡◌, ◌<◌, ◌≤◌, IfOk, OnErr, length, true};
 ghost use Rattle.mm_command.specs.Meanings.{meaning_of};
+ghost use Rattle.mm_edit.specs.Counts.{pending_count};
+ghost use Rattle.mm_plain.specs.Numbers.{HasOwnLabels};
+ghost use Rattle.mm_plain.specs.Shape.{size_of};
 ghost use Rattle.mm_scope.specs.Contents.{labels_of};
 ghost use Rattle.mm_shell.specs.Sound.{IsOpenIn, IsProofOf, IsSound};
+ghost use Rattle.mm_tree.specs.Versions.{BeginsAlike, HasNoDrafts};
+ghost use Rattle.mm_undo.specs.Histories.{IsHistoryOf, IsMarkOfBeginning, KeepsSettled};
 ghost use Rattle.mm_edit_commands.specs.Edits.{EditsProof, EditsState, EditsTree, edit_answer, edit_in, edit_of, is_built, is_last};
+ghost use Rattle.mm_edit_commands.specs.Ending.{EndsEdit};
 
 use crate::assign::assign;
-use mm_base::Steps;
+use mm_base::{Memory, Steps};
 use mm_command::{Command, StepWord};
 use mm_scope::{Database, StmtId};
 use mm_shell::{OpenProof, Refusal, State};
-use mm_tree::Tree;
+use mm_tree::{Mark, Tree};
+use mm_undo::History;
 use std::alloc::Global;
 use std::sync::ledger::Ledger;
 
@@ -63,7 +70,7 @@ fn is_last(step: StepWord) -> bool
     matches!(&step, StepWord::Last)
 }
 
-// Edits the open proof, counts its steps and marks it: the ending of every edit.
+// Edits the open proof. The edit makes drafts in the tree, and is then kept or taken back.
 fn edit_proof<'a, L: Ledger>(
     alloc: Global,
     database: &Database,
@@ -75,21 +82,68 @@ fn edit_proof<'a, L: Ledger>(
     requires held { IsOpenIn database.now proof.old }
     ensures { EditsProof (edit_in (meaning_of command.entry) database.now proof.old) proof.old result proof.new }
 {
-    let theorem = proof.theorem();
-    match edit_tree(alloc, database, theorem, proof.tree_mut(), command, steps) {
+    let before = proof.tree.mark();
+    match edit_tree(
+        alloc,
+        database,
+        proof.theorem,
+        &mut proof.tree,
+        command,
+        steps,
+    ) {
         Err(refusal) => Err(refusal),
+        Ok(()) => match end_edit(alloc, database, &mut proof.tree, &mut proof.history, before) {
+            Err(_) => Err(Refusal::OutOfMemory),
+            Ok(counts) => {
+                proof.changed = true;
+                Ok(counts)
+            }
+        },
+    }
+}
+
+// The ending of every edit: counts the steps, and keeps the proof before the edit, which the mark names. Where there is no
+// memory to count, the edit is taken back.
+fn end_edit(
+    alloc: Global,
+    database: &Database,
+    tree: &mut Tree,
+    history: &mut History,
+    before: Mark,
+) -> Result<Counts, Memory>
+    requires own { HasOwnLabels database.now tree.old.proof.plain }
+    requires few { size_of tree.old.proof.plain ≤ 1000000 }
+    requires held { IsHistoryOf tree.old.versions history.old }
+    requires begun { IsMarkOfBeginning tree.old.versions before }
+    ensures { EndsEdit database.now before tree.old history.old result tree.new history.new }
+{
+    match pending_count(alloc, database, tree) {
+        Err(memory) => {
+            tree.back(before);
+            Err(memory)
+        }
         Ok(pending) => {
-            proof.note_edit();
+            history.accept(tree, before);
             Ok(Counts {
-                steps: proof.steps(),
-                unknown: proof.tree().unknown_steps(),
+                steps: tree.size(),
+                unknown: tree.unknown_steps(),
                 pending,
             })
         }
     }
 }
 
-// Edits a tree: one arm for each edit. Answers how many steps are pending then.
+// How many steps are pending.
+fn pending_count(alloc: Global, database: &Database, tree: &Tree) -> Result<u32, Memory>
+    requires own { HasOwnLabels database.now tree.now.proof.plain }
+    requires few { size_of tree.now.proof.plain ≤ 1000000 }
+    ensures { IfOk result (λ count. count ≡ pending_count database.now tree.now.proof.plain) }
+{
+    let pending = tree.pending_steps(alloc, database)?;
+    Ok(pending.len() as u32)
+}
+
+// Edits a tree: one arm for each edit. It makes drafts, and each settled version stays.
 #[tactic(auto, unfolding(crate::specs::Edits::edit_of))]
 fn edit_tree<'a, L: Ledger>(
     alloc: Global,
@@ -98,10 +152,14 @@ fn edit_tree<'a, L: Ledger>(
     tree: &mut Tree,
     command: Command<'a>,
     steps: &mut Steps<L>,
-) -> Result<u32, Refusal<'a>>
+) -> Result<(), Refusal<'a>>
     requires at { theorem.0 < length (labels_of database.now) }
     requires valid { IsProofOf database.now theorem.0 tree.old.proof }
-    ensures { EditsTree database.now (edit_of (meaning_of command.entry) database.now theorem.0 tree.old.proof) tree.old result tree.new }
+    requires settled { HasNoDrafts tree.old.versions }
+    ensures edited { EditsTree (edit_of (meaning_of command.entry) database.now theorem.0 tree.old.proof) tree.old.proof result tree.new.proof }
+    ensures marks { KeepsSettled tree.old.versions tree.new.versions }
+    ensures begun { BeginsAlike tree.old.versions tree.new.versions }
+    ensures refused { OnErr result (HasNoDrafts tree.new.versions) }
 {
     match command {
         Command::Assign {

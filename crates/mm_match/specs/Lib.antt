@@ -1,4 +1,3 @@
-pub mod Keys
 pub mod Items
 pub mod Parts
 pub mod Opens

@@ -4,7 +4,6 @@
 mod ends;
 mod found;
 mod items;
-mod keys;
 mod matched;
 mod open;
 mod row;

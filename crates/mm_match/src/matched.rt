@@ -11,10 +11,10 @@ ghost use Rattle.mm_match.specs.Matches.{IsAnswer, MayBeNamed};
 
 use crate::found::Found;
 use crate::items::items_of;
-use crate::keys::variables_for;
 use crate::search::{part_of, search};
 use crate::table::Table;
 use crate::values::Values;
+use mm_plain::variables_for;
 use mm_scope::{Database, StmtId};
 use mm_subst::{Brackets, Memory, Subst, WStr, WSym, statement};
 use std::alloc::Global;

@@ -1,11 +1,15 @@
 -- The children of a step, by the numbers that they have in the whole; a tree put in the place of one that was put before.
-use Rattle.std.proofs.Common.{zero, suc, ◌≡◌, ℕ, ◌+◌, ◌-◌, ◌≤◌, ◌<◌, List, [], ◌∷◌, length, take, get_or, set, refl, sym, ◌∙◌, ap, inl, inr, arith, add-one}
+use Rattle.std.proofs.Common.{zero, suc, ◌≡◌, ℕ, ◌+◌, ◌-◌, ◌≤◌, ◌<◌, List, [], ◌∷◌, length, take, drop, get_or, set, refl, sym, ◌∙◌, ap, inl, inr, arith, add-one}
 use Rattle.std.specs.List.{sum_by}
 use Rattle.std.proofs.lemmas.Bool.{cases_lt}
-use Rattle.std.proofs.lemmas.List.Sums.{sum_by-cons}
+use Rattle.std.proofs.lemmas.List.Sums.{sum_by-cons, sum_by-append}
+use Rattle.std.proofs.lemmas.List.{take-append-drop}
 use Rattle.mm_subst.specs.declared.symbol.WSym.{WSym}
 use Rattle.mm_subst.specs.Substitutions.{Pairs}
 use Rattle.mm_plain.specs.declared.plain.Plain.{Plain}
+use Rattle.mm_plain.specs.declared.plain.Plain.TheOpen as L
+use Rattle.mm_plain.specs.declared.plain.Plain.TheViews as V
+use Rattle.mm_plain.specs.Children.{children_layer, children_of}
 use Rattle.mm_plain.specs.Shape.{Each, known, unknown, size_of, step_at, put, put_kids, seat, depth_at}
 use Rattle.mm_plain.specs.Numbers.{number_in, number_of_child}
 use Rattle.mm_plain.proofs.Equations.{by_trees, size_of-unknown, size_of-known, size_of-pos, put-unknown}
@@ -239,3 +243,37 @@ depth-within = by_trees DeepWithin
           let same : number_in x k j ≡ j = omega (arith, size_of-known t l s kids, ap size_of is) in
           omega (arith, ap (depth_at x) same, depth-root t l s kids k z, ap (λ y. depth_at y j) is)
     ])
+
+-- the children of a step, and one of them by the steps behind it
+
+pub children_of-unknown : (t : List WSym) → children_of (unknown t) ≡ []
+unfolding children_of
+children_of-unknown t = ap children_layer (V.out-roll-Plain (L.Unknown t))
+
+pub children_of-known : (t : List WSym) (l : ℕ) (s : Pairs) (kids : List Plain) → children_of (known t l s kids) ≡ kids
+unfolding children_of
+children_of-known t l s kids = ap children_layer (V.out-roll-Plain (L.Known t l s kids))
+
+abbrev IsBehind : Plain → ℕ → ℕ → ℕ → Plain → Plain → Type 0
+IsBehind x k j n d y = step_at x k ≡ y → j ≤ length (children_of y) → n + sum_by size_of (drop j (children_of y)) + 1 ≡ k → (1 ≤ n) × (step_at x n ≡ get_or (children_of y) (j - 1) d)
+
+pub child-behind : (x : Plain) (k j n : ℕ) (d : Plain) → 1 ≤ k → k ≤ size_of x → 1 ≤ j → (y : Plain) → IsBehind x k j n d y
+child-behind x k j n d h g f = by_trees (IsBehind x k j n d)
+    (λ t is m e. absurd (omega (arith, ap length (children_of-unknown t))))
+    (λ t l s kids ih is m e.
+    let c : children_of (known t l s kids) ≡ kids = children_of-known t l s kids in
+    let a = around x k h g in
+    let number = a.number in
+    let i : j - 1 + 1 ≡ j = omega arith in
+    let less : j - 1 < length kids = omega (arith, ap length c) in
+    let z : number_in x k (number_of_child kids (j - 1)) ≡ n = omega (
+      arith,
+      ap (λ m. sum_by size_of (take m kids)) i,
+      sum_by-append size_of (take j kids) (drop j kids),
+      ap (sum_by size_of) (take-append-drop j kids),
+      ap (λ ks. sum_by size_of (drop j ks)) c,
+      ap size_of is,
+      size_of-known t l s kids,
+    ) in
+    let first = (child-number kids (j - 1) less).0 in
+    (omega (arith, z), ap (step_at x) (sym z) ∙ child-step_in x k t l s kids (j - 1) d h g is less ∙ ap (λ ks. get_or ks (j - 1) d) (sym c)))

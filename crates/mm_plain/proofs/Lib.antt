@@ -17,6 +17,8 @@ pub mod Labels
 pub mod Binding
 pub mod Works
 pub mod First
+pub mod Occurring
+pub mod Floats
 pub mod Bounds
 pub mod Parts
 pub mod Moved

@@ -51,7 +51,7 @@ stands_by : (b a : Bool) (id at n : ℕ) → (b ≡ true → id < n) → at < n 
 stands_by true a id at n own h is = own refl
 stands_by false a id at n own h is = (let low : id < at = grind (arith, nat_tests, is) in omega arith)
 
-stands-own : (bytes : List ℕ) (at id : ℕ) → at < length (labels_of bytes) → may_stand bytes at id ≡ true → id < length (labels_of bytes)
+pub stands-own : (bytes : List ℕ) (at id : ℕ) → at < length (labels_of bytes) → may_stand bytes at id ≡ true → id < length (labels_of bytes)
 unfolding may_stand
 stands-own bytes at id h is =
     stands_by (is_hypothesis (stated_at bytes id).kind) (list_any (λ n. nat_eq id n) (active_at bytes at)) id at (length (labels_of bytes)) (hypothesis-own bytes id) h is

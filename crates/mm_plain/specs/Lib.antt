@@ -1,5 +1,6 @@
 pub mod Shape
 pub mod Premises
+pub mod Variables
 pub mod Sources
 pub mod Valid
 pub mod Numbers
@@ -7,6 +8,9 @@ pub mod Forms
 pub mod Labels
 pub mod Binding
 pub mod Lengths
+pub mod Occurring
+pub mod Children
+pub mod Floats
 pub mod Grafts
 pub mod Drawing
 pub mod LabelTrees

@@ -1,4 +1,5 @@
-//! Proof trees as contracts see them: their steps, and when a proof is valid for a theorem of a database.
+//! Proof trees as contracts see them: their steps, and when a proof is valid for a theorem of a database; and the variables
+//! of a statement, for which a step has values.
 //!
 //! No function of the program takes or makes a plain tree; it is what a tree of nodes means.
 #![tactic(auto)]
@@ -6,6 +7,7 @@
 mod laws;
 mod plain;
 mod statements;
+mod variables;
 
 pub use laws::{
     fresh_work_variables_fit, heights_add_up, labels_begin_valid_proofs, parts_are_nested,
@@ -16,3 +18,4 @@ pub use laws::{
 };
 pub use plain::Plain;
 pub use statements::{labels_find_statements, statements_are_formed, statements_are_strings};
+pub use variables::variables_for;

@@ -18,7 +18,7 @@ use Rattle.mm_save.proofs.Texts.{text_fine}
 use Rattle.mm_splice.specs.Keeping.{KeepsTheRest}
 use Rattle.mm_splice.specs.Splicing.{spliced}
 use Rattle.mm_stack.specs.Accepting.{Accepts}
-use Rattle.mm_stack.specs.Decoding.{proof_of as proof_text}
+use Rattle.mm_proof.specs.Decoding.{proof_of as proof_text}
 use Rattle.mm_save.specs.Saving.{names_pairs, saved, saved_text}
 use Rattle.mm_save.proofs.Agreeing.{Agree, label_same}
 use Rattle.mm_save.proofs.Saves.{accepted_by, apart_without, saved_keeps, saved_agrees}
@@ -36,13 +36,13 @@ use Rattle.mm_shell.specs.declared.refusal.Refusal.{Refusal}
 use Rattle.mm_shell.specs.declared.refusal.Refusal.TheVariants.{NotUnified, NotBuilt, NotBuiltHere, TooLong}
 use Rattle.mm_shell.proofs.FindLemmas.{IsNamed, found_is, theorem_found, proof_found, own_labels}
 use Rattle.mm_shell.proofs.FitLemmas.{rows_fit, given_fits, done_fits, refused_fits}
-use Rattle.mm_proof_commands.specs.Commands.{prove, save, exit, exit_by, unknown_or_ready, database_with, proof_answer}
+use Rattle.mm_proof_commands.specs.Commands.{prove, undo, redo, save, exit, exit_by, unknown_or_ready, database_with, proof_answer}
 use Rattle.mm_proof_commands.proofs.CompleteLemmas.{complete_by}
 
 -- ## PROVE
 
-start_open : (bytes label : List ℕ) (id : ℕ) → IsNamed bytes label id → IsOpenIn bytes (start_of bytes id)
-start_open bytes label id named = record {
+start_open : (bytes label : List ℕ) (id depth : ℕ) → IsNamed bytes label id → IsOpenIn bytes (start_of bytes id depth)
+start_open bytes label id depth named = record {
   own = named.own;
   theorem = named.theorem;
   valid = valid-start bytes id (statement_of bytes id) (string_of_statement (first_setting bytes id) id);
@@ -53,7 +53,15 @@ start_open bytes label id named = record {
 prove_fits : (s : State) (label : List ℕ) (guarded_too : Bool) → Fits Nowhere s (prove s label guarded_too)
 prove_fits s label guarded_too =
     rows_fit Nowhere s _ _ (given_fits Nowhere s _ _ (λ bytes is. given_fits Nowhere s _ _ (λ id found. rows_fit Nowhere s _ _ (done_fits Nowhere s _
-    (subst (λ (d : Option (List ℕ)). OpensIn d (start_of bytes id)) (sym (found_is s.database _ bytes is)) (start_open bytes label id (theorem_found bytes label id found))) tt tt))))
+    (subst (λ (d : Option (List ℕ)). OpensIn d (start_of bytes id s.undo_depth)) (sym (found_is s.database _ bytes is)) (start_open bytes label id s.undo_depth (theorem_found bytes label id found))) tt tt))))
+
+-- ## UNDO and REDO
+
+undo_fits : (s : State) → Fits Nowhere s (undo s)
+undo_fits s = given_fits Nowhere s _ _ (λ p found. rows_fit Nowhere s _ _ (done_fits Nowhere s _ tt tt tt))
+
+redo_fits : (s : State) → Fits Nowhere s (redo s)
+redo_fits s = given_fits Nowhere s _ _ (λ p found. rows_fit Nowhere s _ _ (done_fits Nowhere s _ tt tt tt))
 
 -- ## SAVE NEW_PROOF
 
@@ -114,7 +122,7 @@ complete_holds bytes p read h room ready =
     let found : find_label bytes (label_at bytes at) ≡ Some at = (has_label bytes at h.own).found in
     let same : accepts.id ≡ at = same_id bytes new (label_at bytes at) accepts.id at agrees.labels accepts.found found in
     let own_now : at < length (labels_of new) = subst (λ (ls : List (List ℕ)). at < length ls) (sym agrees.labels) h.own in
-    subst (Holds new) same (record { own = subst (λ (k : ℕ). k < length (labels_of new)) (sym same) own_now; kind = accepts.theorem; normal = accepts.normal; accepted = accepts.accepted })
+    subst (Holds new) same (record { own = subst (λ (k : ℕ). k < length (labels_of new)) (sym same) own_now; kind = accepts.theorem; accepted = accepts.accepted })
   where
     same_id : (old new label : List ℕ) (i j : ℕ) → labels_of new ≡ labels_of old → find_label new label ≡ Some i → find_label old label ≡ Some j → i ≡ j
     same_id old new label i j same e f = let g : (let o : Option ℕ = Some i in o) ≡ Some j = sym e ∙ ap (λ (ls : List (List ℕ)). position (bytes_eq label) ls) same ∙ f in cc
@@ -155,6 +163,8 @@ pub proof_fits : (m : Meaning) (s : State) → IsSound s → Fits Nowhere s (pro
 unfolding proof_answer
 proof_fits meaning.Nothing s sound = done_fits Nowhere s _ tt tt tt
 proof_fits (meaning.Prove label guarded_too) s sound = prove_fits s label guarded_too
+proof_fits meaning.Undo s sound = undo_fits s
+proof_fits meaning.Redo s sound = redo_fits s
 proof_fits (meaning.Save normal compressed guarded_too) s sound = save_fits s normal compressed guarded_too sound
 proof_fits (meaning.Exit force) s sound = exit_fits s force s.open_proof
 proof_fits _ s sound = refused_fits Nowhere s NotBuilt

@@ -1,5 +1,5 @@
 -- What each command on the open proof or on the session means: its refusals in order, and then what it does.
-use Rattle.std.specs.Prelude.{◌&&◌, ◌||◌, not, nat_lt, length, is_some, ℕ, Bool, true, false, List, [], ◌∷◌, Option, Some, None, Result, Ok, Err, if◌then◌else◌, slice_get}
+use Rattle.std.specs.Prelude.{◌&&◌, ◌||◌, ◌==◌, not, nat_lt, length, is_some, ℕ, Bool, true, false, List, [], ◌∷◌, Option, Some, None, Result, Ok, Err, if◌then◌else◌, slice_get}
 use Rattle.mm_plain.specs.Numbers.{pending_in}
 use Rattle.mm_plain.specs.Shape.{size_of}
 use Rattle.mm_plain.specs.Labels.{label_at}
@@ -8,14 +8,14 @@ use Rattle.mm_save.specs.Saving.{names_pairs, saved}
 use Rattle.mm_scope.specs.Judged.{most_bytes}
 use Rattle.mm_command.specs.Meanings as meaning
 use Rattle.mm_command.specs.Meanings.{Meaning}
-use Rattle.mm_shell.specs.Answers.{Answer, unless, given, none_of, does, reports, changes}
+use Rattle.mm_shell.specs.Answers.{Answer, unless, given, found_or, none_of, does, reports, changes}
 use Rattle.mm_shell.specs.Finding.{database_of, theorem_named, proof_of, is_closed}
 use Rattle.mm_shell.specs.OpenProofs.{ProofState, start_of}
 use Rattle.mm_shell.specs.declared.state.State.{State}
-use Rattle.mm_shell.specs.declared.answer.Change.TheVariants.{Opens, Saves, Leaves, Ends}
+use Rattle.mm_shell.specs.declared.answer.Change.TheVariants.{Opens, Saves, Undoes, Redoes, Leaves, Ends}
 use Rattle.mm_shell.specs.declared.refusal.Refusal.{Refusal}
-use Rattle.mm_shell.specs.declared.refusal.Refusal.TheVariants.{Guarded, ProofOpen, TooLong, NotUnified, ProofNotSaved, NotWritten, NotBuilt, NotBuiltHere}
-use Rattle.mm_shell.specs.declared.report.Report.TheVariants.{Nothing, Counts, Saved}
+use Rattle.mm_shell.specs.declared.refusal.Refusal.TheVariants.{Guarded, ProofOpen, NoProofOpen, TooLong, NotUnified, NothingToUndo, NothingToRedo, ProofNotSaved, NotWritten, NotBuilt, NotBuiltHere}
+use Rattle.mm_shell.specs.declared.report.Report.TheVariants.{Nothing, Counts, Saved, Undone, Redone}
 use Rattle.mm_proof_commands.specs.Unproved.{is_unproved}
 
 -- ## PROVE
@@ -29,7 +29,15 @@ prove s label guarded_too =
     (is_closed guarded_too bytes id, Guarded label)
     ∷ (not (is_unproved bytes id), NotBuilt)
     ∷ [])
-    (does (Counts 1 1 0) (Opens (start_of bytes id))))))
+    (does (Counts 1 1 0) (Opens (start_of bytes id s.undo_depth))))))
+
+-- ## UNDO and REDO
+
+abbrev pub undo : State → Answer
+undo s = given (found_or s.open_proof NoProofOpen) (λ p. unless ((length p.past == 0, NothingToUndo) ∷ []) (does Undone Undoes))
+
+abbrev pub redo : State → Answer
+redo s = given (found_or s.open_proof NoProofOpen) (λ p. unless ((length p.future == 0, NothingToRedo) ∷ []) (does Redone Redoes))
 
 -- ## SAVE NEW_PROOF
 
@@ -74,6 +82,8 @@ exit s force = exit_by s force s.open_proof
 unfoldable pub proof_answer : Meaning → State → Answer
 proof_answer meaning.Nothing s = reports Nothing
 proof_answer (meaning.Prove label guarded_too) s = prove s label guarded_too
+proof_answer meaning.Undo s = undo s
+proof_answer meaning.Redo s = redo s
 proof_answer (meaning.Save normal compressed guarded_too) s = save s normal compressed guarded_too
 proof_answer (meaning.Exit force) s = exit s force
 proof_answer _ s = Err NotBuilt

@@ -3,7 +3,7 @@ use Rattle.std.specs.Prelude.{ℕ, Bool, false, List, [], ◌∷◌, slice_range
 use Rattle.std.specs.Str.{bytes_eq}
 use Rattle.mm_tokens.specs.Pieces.{pieces_of, tokens_in}
 use Rattle.mm_tokens.specs.declared.pieces.Token.{Token}
-use Rattle.mm_stack.specs.Decoding.{proof_of}
+use Rattle.mm_proof.specs.Decoding.{proof_of}
 
 -- whether the tokens are `?` alone
 abbrev pub is_lone_mark : List ℕ → List Token → Bool

@@ -6,7 +6,9 @@ ghost use Rattle.mm_proof_commands.specs.Commands.{proof_answer};
 
 use crate::exit::exit;
 use crate::prove::prove;
+use crate::redo::redo;
 use crate::save::save;
+use crate::undo::undo;
 use mm_command::Command;
 use mm_shell::{Change, Done, Refusal, Report, State};
 use std::alloc::Global;
@@ -32,6 +34,8 @@ pub fn answer<'a>(
             compressed,
             guarded_too,
         } => save(alloc, state, normal, compressed, guarded_too),
+        Command::Undo => undo(state),
+        Command::Redo => redo(state),
         Command::Exit { force } => exit(state, force),
         _ => Err(Refusal::NotBuilt),
     }

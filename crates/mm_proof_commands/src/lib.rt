@@ -5,6 +5,8 @@ mod commands;
 mod exit;
 mod lone;
 mod prove;
+mod redo;
 mod save;
+mod undo;
 
 pub use commands::answer;

@@ -29,7 +29,7 @@ pub fn prove<'a>(
     if !is_unproved(database, id) {
         return Err(Refusal::NotBuilt);
     }
-    let proof = OpenProof::start(alloc, database, id)?;
+    let proof = OpenProof::start(alloc, database, id, state.undo_depth)?;
     Ok(Done {
         report: Report::Counts(1, 1, 0),
         change: Change::Opens(proof),

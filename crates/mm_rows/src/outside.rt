@@ -39,7 +39,7 @@ fn both_kinds_in_memory_give_one_transcript(rt: HostRuntime) -> Result<(), Fail>
     let mut files = failing(alloc, &[])?;
     let mut input = MemSource::new(alloc, typed(alloc, LEFT)?.as_slice(), &[])?;
     let mut screen = MemSink::new(alloc, ROOM, &[])?;
-    let end = run_session(alloc, &mut files, &mut input, &mut screen);
+    let end = run_session(alloc, &mut files, &mut input, &mut screen)?;
     assert_eq!(rt; end.status, 0);
     assert_eq!(rt; screen.held(), LEFT.as_bytes());
     Ok(())
@@ -82,7 +82,7 @@ fn a_file_is_written_at_the_second_trial(rt: HostRuntime) -> Result<(), Fail> {
         let mut files = failing(alloc, &[2])?;
         let mut input = SureSource::new(alloc, typed(alloc, transcript)?.as_slice())?;
         let mut screen = SureSink::new(alloc, ROOM)?;
-        let end = run_session(alloc, &mut files, &mut input, &mut screen);
+        let end = run_session(alloc, &mut files, &mut input, &mut screen)?;
         assert_eq!(rt; end.status, 1);
         assert_eq!(rt; end.faulted.as_slice(), [5].as_slice());
         assert_eq!(rt; screen.held(), transcript.as_bytes());
@@ -142,7 +142,7 @@ fn pieced(alloc: Global, next: usize, most: usize) -> Result<Vec<u8>, Fail> {
         most,
     };
     let mut screen = SureSink::new(alloc, ROOM)?;
-    let _end = run_session(alloc, &mut files, &mut input, &mut screen);
+    let _end = run_session(alloc, &mut files, &mut input, &mut screen)?;
     Ok(screen.held().to_vec(alloc)?)
 }
 

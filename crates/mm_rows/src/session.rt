@@ -1,8 +1,12 @@
 //! How a test runs a session.
 
-ghost use Rattle.std.specs.Prelude.{◌≡◌, ◌<◌};
+ghost use Rattle.std.specs.Prelude.{◌≡◌, ◌<◌, false};
+ghost use Rattle.mm_session.specs.Hearing.{AreReady};
 
-use mm_base::{Files, Memory, Sink, Source, Steps, SureFiles, SureSink, SureSource, is_name};
+use mm_base::{
+    Files, Memory, Recorder, Recorders, Sink, Source, Steps, SureFiles, SureSink, SureSource,
+    is_name,
+};
 use mm_session::SessionEnd;
 use std::alloc::Global;
 use std::marker::Brand;
@@ -18,8 +22,18 @@ pub fn run_session<F: Files, S: Source, K: Sink>(
     files: &mut F,
     input: &mut S,
     screen: &mut K,
-) -> SessionEnd {
-    run_in::<Brand, _, _, _>(alloc, files, input, screen, Blank::new(1))
+) -> Result<SessionEnd, Memory> {
+    match Recorders::new(alloc, Vec::new(alloc)) {
+        Ok(mut recorders) => Ok(run_in::<Brand, _, _, _>(
+            alloc,
+            files,
+            input,
+            screen,
+            &mut recorders,
+            Blank::new(1),
+        )),
+        Err((_, e)) => Err(e),
+    }
 }
 
 /// Runs a session with a ledger of its own.
@@ -28,21 +42,24 @@ fn run_in<L: Ledger, F: Files, S: Source, K: Sink>(
     files: &mut F,
     input: &mut S,
     screen: &mut K,
+    recorders: &mut Recorders,
     blank: Blank,
 ) -> SessionEnd
+    requires closed { recorders.old.begun ≡ false }
+    requires ready { AreReady ⟦<dyn Recorder as Recorder>⟧ recorders.old }
     requires name { blank.name ≡ L.name }
     requires parts { blank.parts ≡ L.parts }
     requires some { 0 < L.parts }
 {
     let mut steps = Steps::<L>::new(blank);
-    mm_session::run_session(alloc, &[], files, input, screen, &mut steps)
+    mm_session::run_session(alloc, &[], files, input, screen, recorders, &mut steps)
 }
 
 /// The status of a session of these lines of input over these files, and what it writes.
 pub fn told<F: Files>(alloc: Global, files: &mut F, input: &[u8]) -> Result<(u8, Vec<u8>), Fail> {
     let mut screen = SureSink::new(alloc, ROOM)?;
     let mut input = SureSource::new(alloc, input)?;
-    let end = run_session(alloc, files, &mut input, &mut screen);
+    let end = run_session(alloc, files, &mut input, &mut screen)?;
     Ok((end.status, screen.held().to_vec(alloc)?))
 }
 

@@ -16,7 +16,7 @@ use Rattle.mm_plain.specs.Shape.{Each, Proof, steps_of}
 use Rattle.mm_plain.specs.Sources.{label_of}
 use Rattle.mm_plain.specs.Valid.{IsValid}
 use Rattle.mm_stack.specs.Accepting.{Accepts, verdict_of}
-use Rattle.mm_stack.specs.Decoding.{proof_of}
+use Rattle.mm_proof.specs.Decoding.{proof_of}
 use Rattle.mm_stack.specs.declared.outcome.Verdict.TheVariants.{Incomplete}
 use Rattle.mm_plain.specs.Labels.{label_at}
 use Rattle.mm_sound.specs.Apart.{IsApart, pairs_by}

@@ -1,6 +1,5 @@
 -- What the answers of the session machine mean.
-use Rattle.std.proofs.Common.{◌≡◌, ℕ, Bool, true, false, is_some, is_ok, is_err, not, List, [], ◌∷◌, Option, Some, None, Result, Ok, Err, refl, sym, ◌∙◌, ap, subst, ◌||◌, if◌then◌else◌}
-use Rattle.std.specs.List.{list_any}
+use Rattle.std.proofs.Common.{◌≡◌, ℕ, Bool, true, false, is_some, is_ok, is_err, not, List, [], ◌∷◌, Option, Some, None, Result, Ok, Err, refl, sym, ◌∙◌, ap, subst, if◌then◌else◌}
 use Rattle.std.proofs.lemmas.List.Elements.{All-contains}
 use Rattle.mm_base.specs.Files.{Map}
 use Rattle.mm_plain.proofs.Labels.{has_label}
@@ -12,7 +11,6 @@ use Rattle.mm_stated.specs.declared.statement.Kind.{Kind}
 use Rattle.mm_stated.specs.declared.statement.Kind.TheVariants.{Theorem}
 use Rattle.mm_stack.specs.declared.outcome.Verdict.{Verdict}
 use Rattle.mm_stack.specs.declared.outcome.Verdict.TheVariants.{Accepted}
-use Rattle.mm_stack.specs.Decoding.{is_compressed}
 use Rattle.mm_stack.specs.Accepting.{verdict_of, Accepts}
 use Rattle.mm_command.specs.Meanings.{Read, VerifyProof}
 use Rattle.mm_shell.specs.Actions.{Fetches, Plan, answer_in, without_files}
@@ -24,7 +22,7 @@ use Rattle.mm_shell.specs.declared.answer.Change.{Change}
 use Rattle.mm_shell.specs.declared.state.State.{State}
 use Rattle.mm_shell.specs.declared.report.Report.TheVariants.{Verified}
 use Rattle.mm_shell.specs.declared.refusal.Refusal.{Refusal}
-use Rattle.mm_shell.specs.declared.refusal.Refusal.TheVariants.{AlreadyRead, BadDatabase, NoDatabase, NoFile, NoStatement, NotBuilt, NotBuiltHere, NotTheorem, ProofOpen}
+use Rattle.mm_shell.specs.declared.refusal.Refusal.TheVariants.{AlreadyRead, BadDatabase, NoDatabase, NoFile, NoStatement, NotTheorem, ProofOpen}
 use Rattle.mm_shell.specs.Finding.{is_theorem, theorem_named}
 use Rattle.mm_database_commands.specs.Commands.{checked, database_plan, is_pattern, loaded, loading, theorems_matched, theorems_meant, verify}
 use Rattle.mm_step.specs.Asked.{Asked, Asks, asked_of}
@@ -42,21 +40,20 @@ says_accepted s n bytes checks change check e among accepted =
     let t : Turn = turn s n in
     let v : AreChecked t.machine.state.database bytes checks = reports_hold (asked_of t.line) t.machine.state t.map (record { report = Verified bytes checks; change = change }) (session_is_sound s n) e in
     let c : IsChecked bytes check = All-contains (IsChecked bytes) checks check v.each among in
-    (v.here, record { id = check.theorem.0; read = database_is_sound s n bytes v.here; found = (has_label bytes check.theorem.0 c.own).found; theorem = c.theorem; normal = c.normal; accepted = sym c.is ∙ accepted })
+    (v.here, record { id = check.theorem.0; read = database_is_sound s n bytes v.here; found = (has_label bytes check.theorem.0 c.own).found; theorem = c.theorem; accepted = sym c.is ∙ accepted })
 
 -- the answer to VERIFY PROOF, where the label's theorem is accepted
 verify_says : (s : State) (bytes label : List ℕ) → is_pattern label ≡ false → s.database ≡ Some bytes → (a : Accepts bytes label) → verify s label ≡ reports (Verified bytes (accepted_check a.id ∷ []))
 unfolding unless given
 verify_says s bytes label plain here a =
-    let say : List ℕ → List ℕ → Answer = λ b ids. unless ((list_any (is_compressed b) ids, NotBuiltHere) ∷ []) (reports (Verified b (checked b ids))) in
+    let say : List ℕ → List ℕ → Answer = λ b ids. reports (Verified b (checked b ids)) in
     let alone : ℕ → Result (List ℕ) Refusal = λ id. Ok (id ∷ []) in
     let named : List ℕ → Option ℕ → Answer = λ b found. given (given (given (found_or found (NoStatement label)) (λ id. unless ((not (is_theorem (stated_at b id).kind), NotTheorem label) ∷ []) (Ok id))) alone) (say b) in
     ap (λ (d : Option (List ℕ)). given (found_or d NoDatabase) (λ b. given (theorems_meant b label) (say b))) here
     ∙ (ap (λ (p : Bool). given (if p then Ok (theorems_matched bytes label) else given (theorem_named bytes label) alone) (say bytes)) plain
     ∙ (ap (named bytes) a.found
     ∙ (ap (λ (k : Kind). given (given (unless ((not (is_theorem k), NotTheorem label) ∷ []) (Ok a.id)) alone) (say bytes)) a.theorem
-    ∙ (ap (λ (c : Bool). unless ((c || false, NotBuiltHere) ∷ []) (reports (Verified bytes (checked bytes (a.id ∷ []))))) a.normal
-    ∙ ap (λ (v : Verdict). reports (Verified bytes (record { theorem = record { 0 = a.id }; verdict = v } ∷ []))) a.accepted))))
+    ∙ ap (λ (v : Verdict). reports (Verified bytes (record { theorem = record { 0 = a.id }; verdict = v } ∷ []))) a.accepted)))
 
 -- the answer of what leaves the files alone
 apart_says : (a : Answer) (map : Map) → answer_in (without_files a) map ≡ a

@@ -11,3 +11,5 @@ mod SavesLemmas
 mod OriginLemmas
 pub mod OutputLemmas
 mod RefusedLemmas
+pub mod EventLemmas
+pub mod HearingLemmas

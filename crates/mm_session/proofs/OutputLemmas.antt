@@ -4,7 +4,10 @@ use Rattle.std.proofs.Math.Seq.{take-append-add}
 use Rattle.std.proofs.lemmas.List.{take-append-le}
 use Rattle.mm_base.specs.Sink.{Gains}
 use Rattle.mm_base.proofs.SinkLemmas.{gains_then}
-use Rattle.mm_session.specs.Output.{GainsLess, GainsFirst}
+use Rattle.mm_session.specs.Output.{GainsLess, GainsFirst, SaysLess}
+use Rattle.mm_session.specs.Logs.{Event, Says}
+use Rattle.mm_session.specs.Hearing.{RecorderOf, Recording, Hears}
+use Rattle.mm_session.proofs.HearingLemmas.{hears_both, hears_then}
 
 -- a fact for an error holds of a result where it holds at all
 pub on_err : {T E : Type 0} (P : Type 0) (r : Result T E) → P → OnErr r P
@@ -52,9 +55,43 @@ module _ {K : Type 0} (tells : K → Bool) (held : K → List ℕ) where
             (gains_then tells held a b c front (take g.taken text) first g.gained);
       }
 
-  -- the second and the third of three pieces
-  pub second_less : (a b c : K) (front middle rest : List ℕ) → Gains tells held a b front → GainsLess tells held b c middle → GainsLess tells held a c (front ++ (middle ++ rest))
-  second_less a b c front middle rest first g = less_after a b c front (middle ++ rest) first (less_of_more b c middle rest g)
+-- The same of the recorders too
+module _ {K R : Type 0} (tells : K → Bool) (held : K → List ℕ) (rc : RecorderOf R) where
+  -- of the screen alone
+  pub less_of : (a b : K) (from to : Recording R) (before : List Event) (text : List ℕ) → SaysLess tells held rc a from b to before text → GainsLess tells held a b text
+  less_of a b from to before text g = record { taken = g.taken; less = g.less; gained = g.gained }
 
-  pub third_less : (a b c d : K) (front middle rest : List ℕ) → Gains tells held a b front → Gains tells held b c middle → GainsLess tells held c d rest → GainsLess tells held a d (front ++ (middle ++ rest))
-  third_less a b c d front middle rest first second g = less_after a b d front (middle ++ rest) first (less_after b c d middle rest second g)
+  pub says_less : (a b : K) (from to : Recording R) (text : List ℕ) (taken : ℕ) → taken < length text → Gains tells held a b (take taken text) → Hears rc from to (Says (take taken text) ∷ []) → SaysLess tells held rc a from b to [] text
+  says_less a b from to text taken less gained heard = record { taken = taken; less = less; gained = gained; heard = heard }
+
+  -- a longer text
+  pub says_less_of_more : (a b : K) (from to : Recording R) (text more : List ℕ) → SaysLess tells held rc a from b to [] text → SaysLess tells held rc a from b to [] (text ++ more)
+  says_less_of_more a b from to text more g =
+      let less = g.less in
+      let same : take g.taken text ≡ take g.taken (text ++ more) = sym (take-append-le g.taken text more (omega (arith, less))) in record {
+        taken = g.taken;
+        less = omega (arith, less, length-append text more);
+        gained = subst (λ (x : List ℕ). Gains tells held a b x) same g.gained;
+        heard = subst (λ (x : List ℕ). Hears rc from to (Says x ∷ [])) same g.heard;
+      }
+
+  -- after a piece that was taken whole
+  pub says_less_after : (a b c : K) (from at to : Recording R) (front text : List ℕ) → Gains tells held a b front → Hears rc from at (Says front ∷ []) → SaysLess tells held rc b at c to [] text → SaysLess tells held rc a from c to [] (front ++ text)
+  says_less_after a b c from at to front text first heard g =
+      let less = g.less in
+      let same : front ++ take g.taken text ≡ take (length front + g.taken) (front ++ text) = sym (take-append-add front text g.taken) in record {
+        taken = length front + g.taken;
+        less = omega (arith, less, length-append front text);
+        gained = subst (λ (x : List ℕ). Gains tells held a c x) same (gains_then tells held a b c front (take g.taken text) first g.gained);
+        heard = subst (λ (x : List ℕ). Hears rc from to (Says x ∷ [])) same (hears_both rc from at to front (take g.taken text) heard g.heard);
+      }
+
+  -- after other events
+  pub says_less_past : (a b : K) (from at to : Recording R) (before : List Event) (text : List ℕ) → Hears rc from at before → SaysLess tells held rc a at b to [] text → SaysLess tells held rc a from b to before text
+  says_less_past a b from at to before text heard g = record { taken = g.taken; less = g.less; gained = g.gained; heard = hears_then rc from at to before (Says (take g.taken text) ∷ []) heard g.heard }
+
+  pub says_less_is : (a b : K) (from to : Recording R) (before : List Event) (text other : List ℕ) → text ≡ other → SaysLess tells held rc a from b to before text → SaysLess tells held rc a from b to before other
+  says_less_is a b from to before text other is g = subst (λ (x : List ℕ). SaysLess tells held rc a from b to before x) is g
+
+  pub says_less_behind : (a b : K) (from to : Recording R) (before other : List Event) (text : List ℕ) → before ≡ other → SaysLess tells held rc a from b to before text → SaysLess tells held rc a from b to other text
+  says_less_behind a b from to before other text is g = subst (λ (es : List Event). SaysLess tells held rc a from b to es text) is g

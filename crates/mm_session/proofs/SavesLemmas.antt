@@ -22,7 +22,7 @@ holds_after s (suc n) theorem e =
     step.saved_theorems_hold (asked_of t.line) t.machine.state t.map t.outcome theorem (is_proved s n theorem) (session_is_sound s n) (holds_after s n theorem) e
 
 accepted_by : (bytes : List ℕ) (theorem : ℕ) → is_read bytes ≡ true → Holds bytes theorem → Accepts bytes (label_at bytes theorem)
-accepted_by bytes theorem read h = record { id = theorem; read = read; found = (has_label bytes theorem h.own).found; theorem = h.kind; normal = h.normal; accepted = h.accepted }
+accepted_by bytes theorem read h = record { id = theorem; read = read; found = (has_label bytes theorem h.own).found; theorem = h.kind; accepted = h.accepted }
 
 pub saved_theorems_hold : SavedTheoremsHold
 saved_theorems_hold s n theorem e = at (session s n).state.database (λ bytes is. database_is_sound s n bytes is) (holds_after s n theorem e) where

@@ -12,7 +12,9 @@ use Rattle.mm_session.specs.declared.run.Run.{Run}
 use Rattle.mm_step.specs.Effects.{Effect, Outcome, Fine, Starved, Faulted, Meets, outcome, ended, is_faulted, is_refused, text_of, with_puts, add_put}
 use Rattle.mm_step.specs.Asked.{Asked, asked_of}
 use Rattle.mm_step.specs.Effects.{asked_effect, step_of}
-use Rattle.mm_session.specs.Session.{Script, Machine, Turn, Maps, session, turn, turn_in, after, outcome_of, effect_of, calls_of, starved_calls_of, prompt, echo}
+use Rattle.mm_step.specs.Logs.{log_change}
+use Rattle.mm_session.specs.Logs.{Event, said, said_in, said_by}
+use Rattle.mm_session.specs.Session.{Script, Machine, Turn, Maps, session, turn, turn_in, after, outcome_of, effect_of, calls_of, starved_calls_of, done, prompt, echo}
 use Rattle.mm_session.specs.Course.{Follows, script, script_of}
 use Rattle.mm_step.specs.Calls.{Fails, one_more}
 use Rattle.mm_step.proofs.LawLemmas.{ends_silently}
@@ -36,6 +38,15 @@ unfolding session
 session_same s s' zero c h g = refl
 session_same s s' (suc n) c h g =
     ap after (turn_same (session s n) (session s' n) s s' n (session_same s s' n c (λ k le. h k (omega arith)) (λ k lt. g k (omega arith))) c (g n (omega arith)) (h (suc n) (omega arith)))
+
+-- and what they say
+pub said_same : (s s' : Script) (n : ℕ) → s'.commands ≡ s.commands → ((k : ℕ) → k ≤ n → outcome_of s'.starved s'.faulted k ≡ outcome_of s.starved s.faulted k) → ((k : ℕ) → k < n → s'.maps k ≡ s.maps k) → said s' n ≡ said s n
+unfolding said
+said_same s s' zero c h g = refl
+said_same s s' (suc n) c h g =
+    let before = session_same s s' n c (λ k le. h k (omega arith)) (λ k lt. g k (omega arith)) in
+    ap (λ (es : List Event). es ++ said_in (turn s' n)) (said_same s s' n c (λ k le. h k (omega arith)) (λ k lt. g k (omega arith)))
+    ∙ ap (λ (t : Turn). said s n ++ said_in t) (turn_same (session s n) (session s' n) s s' n before c (g n (omega arith)) (h (suc n) (omega arith)))
 
 -- the maps with this one at command n, unless they are known to have it
 abbrev pub next_maps : Bool → Maps → ℕ → Map → Maps
@@ -170,6 +181,19 @@ module _ {F : Type 0} (fs : FilesOf F) (s : Script) (begun : F) (n : ℕ) (state
   goes : session next (suc n) ≡ after it
   goes = session_suc next n ∙ ap after turn_now
 
+  said_before : said next n ≡ said s n
+  said_before = said_same s next n refl
+      (λ j at. outcome_before (outcome r) s.starved s.faulted n j (omega arith)) (λ j lt. next_before (fs.tells now) s.maps n j t.has_run.map (omega arith))
+
+  goes_said : said next (suc n) ≡ said s n ++ said_by state line (log_change (is_refused r) (asked_of line)) (text_of r)
+  unfolding said
+  goes_said =
+      let text = (done it).text in
+      ap (λ (es : List Event). es ++ said_in (turn next n)) said_before
+      ∙ (ap (λ (x : Turn). said s n ++ said_in x) turn_now
+      ∙ (ap (λ (b : Bool). said s n ++ said_by state line (log_change b (asked_of line)) text) (sym t.has_run.meets.refused)
+      ∙ ap (λ (x : List ℕ). said s n ++ said_by state line (log_change (is_refused r) (asked_of line)) x) (sym t.has_run.meets.text)))
+
   follows_on : Follows fs next begun (suc n) state' refused' now
   follows_on =
       let o = outcome r in
@@ -247,6 +271,8 @@ module _ {F : Type 0} (fs : FilesOf F) (s : Script) (begun : F) (n : ℕ) (state
   goes_on = record {
     follows = follows_on;
     earlier = session_before n (omega arith);
+    said_earlier = said_before;
+    said_is = goes_said;
     text = ap (λ (m : Machine). m.text) goes ∙ ap (λ (x : List ℕ). (session s n).text ++ ((prompt state ++ echo line) ++ x)) (sym t.has_run.meets.text);
     counted = counted_on;
     ends = ends_fine state state' t.has_run.map line r (subst IsSound (sym t.follows.state_is) (session_is_sound s n)) t.open_still t.has_run.meets;

@@ -14,84 +14,114 @@ use Rattle.mm_session.specs.declared.turn.Turn.{Turn}
 use Rattle.mm_session.specs.declared.turn.Turn.TheVariants.{GoesOn, Ended}
 use Rattle.mm_shell.specs.declared.state.State.{State}
 use Rattle.mm_lines.specs.Lines.{lines_of}
-use Rattle.mm_session.specs.Output.{GainsLess}
+use Rattle.mm_session.specs.Output.{SaysLess}
+use Rattle.mm_session.specs.Logs.{Says, Closes}
+use Rattle.mm_session.proofs.HearingLemmas.{hears_logs, hears_to_end}
+use Rattle.mm_session.specs.declared.session.SessionEnd.{SessionEnd}
+use Rattle.mm_session.specs.Hearing.{RecorderOf, Recording, Hears}
 use Rattle.mm_shell.specs.Changes.{new_state}
 use Rattle.mm_session.specs.Session.{prompt}
 use Rattle.mm_session.specs.Coming.{Came, ComesNext, ComesToEnd, ComesToStop, line_in, no_line, to_come}
 use Rattle.mm_session.specs.Taken.{Takes, wants_more, ends_by_command}
-use Rattle.mm_session.specs.Headline.{IsSession, end_status}
-use Rattle.mm_session.specs.Turns.{Stands, Turns, Prompted, HasNext, Answers, AnswerEnds, Unechoed, Untold, GivenUp, Exits, Finishes, Finished, Unwritten, Written, ended_run}
+use Rattle.mm_session.specs.Headline.{KeepsLogs, end_status}
+use Rattle.mm_session.specs.Turns.{Stands, SaysAll, Logged, Turns, Prompted, HasNext, Answers, AnswerEnds, Unechoed, Untold, GivenUp, Exits, Finishes, Finished, Unwritten, Written, ended_run}
 use Rattle.mm_shell.specs.Sound.{IsSound}
 use Rattle.mm_session.specs.Course.{script_of}
 use Rattle.mm_session.proofs.SoundLemmas.{session_is_sound}
 use Rattle.mm_session.proofs.HeadlineLemmas.{nothing_run, not_begun, cut_at_prompt, input_failed, input_spent, finishes}
 use Rattle.mm_session.proofs.TakenLemmas.{came_none, count_taken, takes_none, takes_run, takes_cut, takes_all, takes_stopped}
 
-module _ {F S K : Type 0} (fs : FilesOf F) (src : SourceOf S) (sk : SinkOf K) (words : List (List ℕ)) (begun : F) (was : S) (opened : K) (c : Commands) (run : Run) (files : F) (input : S) (screen : K) (st : Stands fs src sk words begun was opened c run files input screen) where
+module _ {F S K R : Type 0} (fs : FilesOf F) (src : SourceOf S) (sk : SinkOf K) (rc : RecorderOf R) (words : List (List ℕ)) (begun : F) (was : S) (opened : K) (from : Recording R) (c : Commands) (run : Run) (files : F) (input : S) (screen : K) (to : Recording R) (st : Stands fs src sk rc words begun was opened from c run files input screen to) where
   -- the screen fails at the prompt
-  pub turn_cut : (screen' : K) → GainsLess sk.tells sk.held screen screen' (prompt run.state) → IsSession fs src sk words begun was opened (ended_run 4 run) files input screen'
-  turn_cut screen' part =
+  pub turn_cut : (screen' : K) (to' : Recording R) → SaysLess sk.tells sk.held rc screen to screen' to' [] (prompt run.state) → SaysAll fs src sk rc words begun was opened from (ended_run 4 run) files input screen' to'
+  turn_cut screen' to' part =
       let commands = st.met ++ to_come words c (src.left input) in
+      let l : Logged fs sk rc commands (length words + length (lines_of st.came.used)) begun opened from (ended_run 4 run) files screen' to' =
+      cut_at_prompt fs sk rc commands _ begun opened from run files screen screen' to to' (st.reached (to_come words c (src.left input))) st.open_still part in
       record {
-        commands = commands;
-        used = st.came.used;
-        runs = cut_at_prompt fs sk commands _ begun opened run files screen screen' (st.reached (to_come words c (src.left input))) st.open_still part;
-        takes = takes_cut src words was st.met c input st.came run.lines _ (omega (arith, st.lines)) (omega (arith, st.lines));
+        session_is = record {
+          commands = commands;
+          used = st.came.used;
+          runs = l.runs;
+          takes = takes_cut src words was st.met c input st.came run.lines _ (omega (arith, st.lines)) (omega (arith, st.lines));
+        };
+        events = l.events;
+        said_is = l.said_is;
+        shows = l.shows;
       }
 
-  prompted : (later : List (List ℕ)) (screen' : K) → Gains sk.tells sk.held screen screen' (prompt run.state) → Prompted fs sk (st.met ++ later) begun opened run files screen'
-  prompted later screen' gains = record { before = screen; reached = st.reached later; prompted = gains }
+  prompted : (later : List (List ℕ)) (screen' : K) (to' : Recording R) → Gains sk.tells sk.held screen screen' (prompt run.state) → Hears rc to to' (Says (prompt run.state) ∷ []) → Prompted fs sk rc (st.met ++ later) begun opened from run files screen' to'
+  prompted later screen' to' gains heard = record { before = screen; heard_before = to; reached = st.reached later; prompted = gains; heard = heard }
 
   -- the input fails
-  pub turn_failed : (new : Commands) (input' : S) (screen' : K) → Gains sk.tells sk.held screen screen' (prompt run.state) → ComesToStop src words was st.came.lines Failed c input new input' →
-      IsSession fs src sk words begun was opened (ended_run 3 run) files input' screen'
-  turn_failed new input' screen' gains stop =
+  pub turn_failed : (new : Commands) (input' : S) (screen' : K) (to' : Recording R) → Gains sk.tells sk.held screen screen' (prompt run.state) → Hears rc to to' (Says (prompt run.state) ∷ []) → ComesToStop src words was st.came.lines Failed c input new input' →
+      SaysAll fs src sk rc words begun was opened from (ended_run 3 run) files input' screen' to'
+  turn_failed new input' screen' to' gains heard stop =
       let later = to_come words c (src.left input) in
+      let l : Logged fs sk rc (st.met ++ later) (length words + length (lines_of stop.used)) begun opened from (ended_run 3 run) files screen' to' =
+      input_failed fs sk rc (st.met ++ later) _ begun opened from run files screen' to' (prompted later screen' to' gains heard) st.open_still in
       record {
-        commands = st.met ++ later;
-        used = stop.used;
-        runs = input_failed fs sk (st.met ++ later) _ begun opened run files screen' (prompted later screen' gains) st.open_still;
-        takes = takes_stopped src words was st.met c input st.came new input' Failed stop run.lines 3 _ st.lines refl refl (λ e. absurd (omega (arith, e)));
+        session_is = record {
+          commands = st.met ++ later;
+          used = stop.used;
+          runs = l.runs;
+          takes = takes_stopped src words was st.met c input st.came new input' Failed stop run.lines 3 _ st.lines refl refl (λ e. absurd (omega (arith, e)));
+        };
+        events = l.events;
+        said_is = l.said_is;
+        shows = l.shows;
       }
 
   -- too much of it was taken
-  pub turn_spent : (new : Commands) (input' : S) (screen' : K) → Gains sk.tells sk.held screen screen' (prompt run.state) → ComesToStop src words was st.came.lines Spent c input new input' →
-      IsSession fs src sk words begun was opened (ended_run 7 run) files input' screen'
-  turn_spent new input' screen' gains stop =
+  pub turn_spent : (new : Commands) (input' : S) (screen' : K) (to' : Recording R) → Gains sk.tells sk.held screen screen' (prompt run.state) → Hears rc to to' (Says (prompt run.state) ∷ []) → ComesToStop src words was st.came.lines Spent c input new input' →
+      SaysAll fs src sk rc words begun was opened from (ended_run 7 run) files input' screen' to'
+  turn_spent new input' screen' to' gains heard stop =
       let later = to_come words c (src.left input) in
+      let l : Logged fs sk rc (st.met ++ later) (length words + length (lines_of stop.used)) begun opened from (ended_run 7 run) files screen' to' =
+      input_spent fs sk rc (st.met ++ later) _ begun opened from run files screen' to' (prompted later screen' to' gains heard) st.open_still in
       record {
-        commands = st.met ++ later;
-        used = stop.used;
-        runs = input_spent fs sk (st.met ++ later) _ begun opened run files screen' (prompted later screen' gains) st.open_still;
-        takes = takes_stopped src words was st.met c input st.came new input' Spent stop run.lines 7 _ st.lines refl refl (λ e. refl);
+        session_is = record {
+          commands = st.met ++ later;
+          used = stop.used;
+          runs = l.runs;
+          takes = takes_stopped src words was st.met c input st.came new input' Spent stop run.lines 7 _ st.lines refl refl (λ e. refl);
+        };
+        events = l.events;
+        said_is = l.said_is;
+        shows = l.shows;
       }
 
   not_by_command : (status : ℕ) (exited : Bool) → status ≤ 4 → (status < 2 → exited ≡ false) → ends_by_command status exited ≡ false
   not_by_command status true le low = grind (arith, nat_tests, low)
   not_by_command status false le low = grind (arith, nat_tests)
 
-  finished_low : (screen' screen'' : K) (status : ℕ) → Finished sk run.refused screen' status screen'' → status ≤ 4
-  finished_low screen' screen'' status (Unwritten e part) = omega (arith, e)
-  finished_low screen' screen'' status (Written e gains) = low run.refused e
+  finished_low : (screen' screen'' : K) (to' to'' : Recording R) (status : ℕ) → Finished sk rc run.refused screen' to' status screen'' to'' → status ≤ 4
+  finished_low screen' screen'' to' to'' status (Unwritten e part) = omega (arith, e)
+  finished_low screen' screen'' to' to'' status (Written e gains heard) = low run.refused e
     where
       low : (b : Bool) → status ≡ end_status b → status ≤ 4
       low true e = omega (arith, e)
       low false e = omega (arith, e)
 
   -- the input has ended
-  pub turn_ends : (new : Commands) (input' : S) (screen' screen'' : K) (result : Turn) → Gains sk.tells sk.held screen screen' (prompt run.state) → ComesToEnd src words was st.came.lines c new input' → Finishes sk run.refused screen' result screen'' →
-      Turns fs src sk words begun was opened c result new run files input' screen''
-  turn_ends new input' screen' screen'' GoesOn gains end f = absurd f
-  turn_ends new input' screen' screen'' (Ended status) gains end f =
-      let le = finished_low screen' screen'' status f in
+  pub turn_ends : (new : Commands) (input' : S) (screen' screen'' : K) (to' to'' : Recording R) (result : Turn) → Gains sk.tells sk.held screen screen' (prompt run.state) → Hears rc to to' (Says (prompt run.state) ∷ []) →
+      ComesToEnd src words was st.came.lines c new input' → Finishes sk rc run.refused screen' to' result screen'' to'' → Turns fs src sk rc words begun was opened from c result new run files input' screen'' to''
+  turn_ends new input' screen' screen'' to' to'' GoesOn gains heard end f = absurd f
+  turn_ends new input' screen' screen'' to' to'' (Ended status) gains heard end f =
+      let le = finished_low screen' screen'' to' to'' status f in
       let all : run.lines ≡ length (st.met ++ []) = omega (arith, st.lines, length-append st.met []) in
-      let to = finishes fs sk (st.met ++ []) (length words + length (lines_of end.used)) begun opened run files screen' screen'' status (prompted [] screen' gains) all st.open_still f in
+      let ended = finishes fs sk rc (st.met ++ []) (length words + length (lines_of end.used)) begun opened from run files screen' screen'' to' to'' status (prompted [] screen' to' gains heard) all st.open_still f in
       record {
-        commands = st.met ++ [];
-        used = end.used;
-        runs = to.runs;
-        takes = takes_all src words was st.met c input st.came new input' end run.lines status _ st.lines
-            (not_by_command status _ le (λ lt. ap (λ s. s.ended) (to.state lt) ∙ st.open_still)) (λ e. absurd (omega (arith, e, le)));
+        session_is = record {
+          commands = st.met ++ [];
+          used = end.used;
+          runs = ended.logged.runs;
+          takes = takes_all src words was st.met c input st.came new input' end run.lines status _ st.lines
+              (not_by_command status _ le (λ lt. ap (λ s. s.ended) (ended.state lt) ∙ st.open_still)) (λ e. absurd (omega (arith, e, le)));
+        };
+        events = ended.logged.events;
+        said_is = ended.logged.said_is;
+        shows = ended.logged.shows;
       }
 
   seam : (met later : List (List ℕ)) (whole : List ℕ) (n : ℕ) → n ≡ length met → slice_index_or ((met ++ whole ∷ []) ++ later) n [] ≡ whole
@@ -99,16 +129,16 @@ module _ {F S K : Type 0} (fs : FilesOf F) (src : SourceOf S) (sk : SinkOf K) (w
       ap (λ (xs : List (List ℕ)). slice_index_or xs n []) (append_assoc met (whole ∷ []) later)
       ∙ (ap (λ (k : ℕ). slice_index_or (met ++ whole ∷ later) k []) is ∙ get_or-append_seam met whole later [])
 
-  module _ (new : Commands) (input' : S) (screen' : K) (gains : Gains sk.tells sk.held screen screen' (prompt run.state)) (n : ComesNext src c input new input') where
+  module _ (new : Commands) (input' : S) (screen' : K) (to' : Recording R) (gains : Gains sk.tells sk.held screen screen' (prompt run.state)) (heard : Hears rc to to' (Says (prompt run.state) ∷ [])) (n : ComesNext src c input new input') where
     abbrev met' : List (List ℕ)
     met' = st.met ++ n.whole ∷ []
 
     length_more : length met' ≡ run.lines + 1
     length_more = omega (arith, st.lines, length-append st.met (n.whole ∷ []))
 
-    prompted_next : (later : List (List ℕ)) → Prompted fs sk (met' ++ later) begun opened run files screen'
+    prompted_next : (later : List (List ℕ)) → Prompted fs sk rc (met' ++ later) begun opened from run files screen' to'
     prompted_next later =
-        subst (λ (cs : List (List ℕ)). Prompted fs sk cs begun opened run files screen') (sym (append_assoc st.met (n.whole ∷ []) later)) (prompted (n.whole ∷ later) screen' gains)
+        subst (λ (cs : List (List ℕ)). Prompted fs sk rc cs begun opened from run files screen' to') (sym (append_assoc st.met (n.whole ∷ []) later)) (prompted (n.whole ∷ later) screen' to' gains heard)
 
     abbrev came' : Came src words was met' new input'
     came' = n.came words was st.met st.came
@@ -152,10 +182,10 @@ module _ {F S K : Type 0} (fs : FilesOf F) (src : SourceOf S) (sk : SinkOf K) (w
         low false e = omega (arith, e)
 
     -- the next command is answered
-    pub turn_answers : (run' : Run) (files' : F) (screen'' : K) (result : Turn) (line : List ℕ) → line ≡ line_in new →
-        ((commands : List (List ℕ)) (taken : ℕ) (whole : List ℕ) → Prompted fs sk commands begun opened run files screen' → HasNext commands taken run line whole → Answers fs sk commands taken begun opened run result run' files' screen'') →
-        Turns fs src sk words begun was opened c result new run' files' input' screen''
-    turn_answers run' files' screen'' GoesOn line is answers =
+    pub turn_answers : (run' : Run) (files' : F) (screen'' : K) (to'' : Recording R) (result : Turn) (line : List ℕ) → line ≡ line_in new →
+        ((commands : List (List ℕ)) (taken : ℕ) (whole : List ℕ) → Prompted fs sk rc commands begun opened from run files screen' to' → HasNext commands taken run line whole → Answers fs sk rc commands taken begun opened from run result run' files' screen'' to'') →
+        Turns fs src sk rc words begun was opened from c result new run' files' input' screen'' to''
+    turn_answers run' files' screen'' to'' GoesOn line is answers =
         let at = λ (later : List (List ℕ)). answers (met' ++ later) taken' n.whole (prompted_next later) (subst (λ (l : List ℕ). HasNext (met' ++ later) taken' run l n.whole) (sym is) (next_is later)) in (
           record {
             met = met';
@@ -166,39 +196,69 @@ module _ {F S K : Type 0} (fs : FilesOf F) (src : SourceOf S) (sk : SinkOf K) (w
           },
           n.nearer words was st.met st.came,
         )
-    turn_answers run' files' screen'' (Ended status) line is answers =
+    turn_answers run' files' screen'' to'' (Ended status) line is answers =
         let later = to_come words new (src.left input') in
         let a = answers (met' ++ later) taken' n.whole (prompted_next later) (subst (λ (l : List ℕ). HasNext (met' ++ later) taken' run l n.whole) (sym is) (next_is later)) in
         record {
-          commands = met' ++ later;
-          used = came'.used;
-          runs = a.1.runs;
-          takes = takes_answered run' status _ a.0 (λ lt. ap (λ s. s.ended) (a.1.state lt));
+          session_is = record {
+            commands = met' ++ later;
+            used = came'.used;
+            runs = a.1.logged.runs;
+            takes = takes_answered run' status _ a.0 (λ lt. ap (λ s. s.ended) (a.1.state lt));
+          };
+          events = a.1.logged.events;
+          said_is = a.1.logged.said_is;
+          shows = a.1.logged.shows;
         }
 
-module _ {F S K : Type 0} (fs : FilesOf F) (src : SourceOf S) (sk : SinkOf K) (words : List (List ℕ)) (begun : F) (was : S) (opened : K) (run : Run) (state : run.state ≡ new_state) (lines : run.lines ≡ 0) (refused : run.refused ≡ false) (starved : run.starved.items ≡ []) (faulted : run.faulted.items ≡ []) where
+module _ {F S K R : Type 0} (fs : FilesOf F) (src : SourceOf S) (sk : SinkOf K) (rc : RecorderOf R) (words : List (List ℕ)) (begun : F) (was : S) (opened : K) (from : Recording R) (run : Run) (state : run.state ≡ new_state) (lines : run.lines ≡ 0) (refused : run.refused ≡ false) (starved : run.starved.items ≡ []) (faulted : run.faulted.items ≡ []) where
   -- a session begins
-  pub session_begins : (c : Commands) → c.words.now ≡ words → c.next ≡ 0 → c.reader ≡ no_line → Stands fs src sk words begun was opened c run begun was opened
+  pub session_begins : (c : Commands) → c.words.now ≡ words → c.next ≡ 0 → c.reader ≡ no_line → Stands fs src sk rc words begun was opened from c run begun was opened from
   session_begins c is_words is_next is_reader = record {
     met = [];
     came = came_none src words was c is_words is_next is_reader;
-    reached = λ later. nothing_run fs sk ([] ++ later) 0 begun opened run state lines refused starved faulted;
+    reached = λ later. nothing_run fs sk rc ([] ++ later) 0 begun opened from run state lines refused starved faulted;
     lines = lines;
     open_still = ap (λ (s : State). s.ended) state;
   }
 
   -- there is no memory to begin with
-  pub session_starves : IsSession fs src sk words begun was opened (ended_run 5 run) begun was opened
-  session_starves = record {
-    commands = words ++ lines_of (src.left was);
-    used = [];
-    runs = not_begun fs sk (words ++ lines_of (src.left was)) _ begun opened run state lines refused starved faulted;
-    takes = takes_none src words was run.lines _ lines;
-  }
+  pub session_starves : SaysAll fs src sk rc words begun was opened from (ended_run 5 run) begun was opened from
+  session_starves =
+      let commands = words ++ lines_of (src.left was) in
+      let l : Logged fs sk rc commands (length words + length (lines_of [])) begun opened from (ended_run 5 run) begun opened from = not_begun fs sk rc commands _ begun opened from run state lines refused starved faulted in
+      record {
+        session_is = record { commands = commands; used = []; runs = l.runs; takes = takes_none src words was run.lines _ lines };
+        events = l.events;
+        said_is = l.said_is;
+        shows = l.shows;
+      }
 
 -- a session stands in a sound state
-pub stands_sound : {F S K : Type 0} (fs : FilesOf F) (src : SourceOf S) (sk : SinkOf K) (words : List (List ℕ)) (begun : F) (was : S) (opened : K) (c : Commands) (run : Run) (files : F) (input : S) (screen : K) →
-    Stands fs src sk words begun was opened c run files input screen → IsSound run.state
-stands_sound fs src sk words begun was opened c run files input screen st =
+pub stands_sound : {F S K R : Type 0} (fs : FilesOf F) (src : SourceOf S) (sk : SinkOf K) (rc : RecorderOf R) (words : List (List ℕ)) (begun : F) (was : S) (opened : K) (from : Recording R) (c : Commands) (run : Run) (files : F) (input : S) (screen : K) (to : Recording R) →
+    Stands fs src sk rc words begun was opened from c run files input screen to → IsSound run.state
+stands_sound fs src sk rc words begun was opened from c run files input screen to st =
     let r = st.reached [] in
     subst IsSound (sym r.follows.state_is) (session_is_sound (script_of (st.met ++ []) r.maps run) run.lines)
+
+-- a session has ended, and an open log is closed
+pub keeps_logs : {F S K R : Type 0} (fs : FilesOf F) (src : SourceOf S) (sk : SinkOf K) (rc : RecorderOf R) (words : List (List ℕ)) (begun : F) (was : S) (opened : K) (from : Recording R) (end : SessionEnd) (files : F) (input : S) (screen : K) (to to' : Recording R) →
+    from.begun ≡ false → SaysAll fs src sk rc words begun was opened from end files input screen to → Hears rc to to' (Closes ∷ []) → KeepsLogs fs src sk rc words begun was opened from end files input screen to'
+keeps_logs fs src sk rc words begun was opened from end files input screen to to' closed says closing = record {
+  session_is = says.session_is;
+  events = says.events;
+  said_is = says.said_is;
+  gained = says.shows.gained;
+  heard = hears_to_end rc from to to' says.events closed says.shows.heard closing;
+}
+
+-- the same, where none was open to the end
+pub keeps_none : {F S K R : Type 0} (fs : FilesOf F) (src : SourceOf S) (sk : SinkOf K) (rc : RecorderOf R) (words : List (List ℕ)) (begun : F) (was : S) (opened : K) (from : Recording R) (end : SessionEnd) (files : F) (input : S) (screen : K) (to : Recording R) →
+    from.begun ≡ false → SaysAll fs src sk rc words begun was opened from end files input screen to → KeepsLogs fs src sk rc words begun was opened from end files input screen to
+keeps_none fs src sk rc words begun was opened from end files input screen to closed says = record {
+  session_is = says.session_is;
+  events = says.events;
+  said_is = says.said_is;
+  gained = says.shows.gained;
+  heard = hears_logs rc from to says.events closed says.shows.heard;
+}

@@ -1,5 +1,5 @@
 -- What holds of a session that has ended.
-use Rattle.std.specs.Prelude.{◌≡◌, ◌+◌, ◌<◌, ◌==◌, ◌||◌, ℕ, zero, suc, nat_lt, if◌then◌else◌, Bool, true, false, IsTrue, List, [], ◌∷◌, ◌++◌, length, slice_index_or, Contains}
+use Rattle.std.specs.Prelude.{◌≡◌, ◌+◌, ◌<◌, ◌≤◌, ◌==◌, ◌||◌, ℕ, zero, suc, nat_lt, if◌then◌else◌, Bool, true, false, IsTrue, List, [], ◌∷◌, ◌++◌, length, slice_index_or, Contains}
 use Rattle.mm_base.specs.declared.files.Files.{Ghosts as FilesOf}
 use Rattle.mm_base.specs.declared.sink.Sink.{Ghosts as SinkOf}
 use Rattle.mm_base.specs.declared.source.Source.{Ghosts as SourceOf}
@@ -14,6 +14,9 @@ use Rattle.mm_session.specs.Calls.{HasCause, FaultsExactly, Counted, CallsRise, 
 use Rattle.mm_session.specs.Session.{Script, Maps, maps_of, session, turn, prompt, echo}
 use Rattle.mm_session.specs.Course.{Rise, AreApart, Follows, script, script_of}
 use Rattle.mm_session.specs.Output.{GainsFirst}
+use Rattle.mm_base.specs.Recorder.{HaveHeard}
+use Rattle.mm_session.specs.Logs.{Event, Says, logs_of, bytes_of, first_events, said, said_next}
+use Rattle.mm_session.specs.Hearing.{RecorderOf, Recording, Shows}
 use Rattle.mm_session.specs.Taken.{Takes}
 
 -- the numbers, and that of the last command, if there is one
@@ -106,9 +109,42 @@ pub record IsSession {F S K : Type 0} (fs : FilesOf F) (src : SourceOf S) (sk : 
   pub runs : Runs fs sk commands (length words + length (lines_of used)) begun opened end files screen
   pub takes : Takes src words was input commands used end.lines end.status (session (script_by commands runs.maps end) end.lines).state.ended
 
--- The first commands have been run, and their transcript is on the screen.
-pub record Reached {F K : Type 0} (fs : FilesOf F) (sk : SinkOf K) (commands : List (List ℕ)) (begun : F) (opened : K) (run : Run) (files : F) (screen : K) : Type 0 where
+-- ## Logs
+
+-- what was said before the reply to command n, counted from 1
+abbrev pub said_before : Script → ℕ → List Event
+said_before s zero = []
+said_before s (suc n) = said_next s n
+
+-- The screen has failed, and of the events after so many commands were the first ones.
+pub record IsCut (s : Script) (taken n : ℕ) (events : List Event) : Type 0 where
+  pub took : ℕ
+  pub least : length (before_reply s n) ≤ took
+  pub most : took ≤ length (next_text s taken n)
+  pub is : events ≡ first_events took (said_next s n)
+
+-- What a session has said that has ended, where so many commands were taken.
+pub record HasSaid (s : Script) (taken : ℕ) (end : SessionEnd) (events : List Event) : Type 0 where
+  pub whole : end.status < 2 → events ≡ said s end.lines ++ Says (last_text (session s end.lines).state) ∷ []
+  pub asking : (end.status == 3 || end.status == 7) ≡ true → events ≡ said s end.lines ++ Says (prompt (session s end.lines).state) ∷ []
+  pub cut : end.status ≡ 4 → IsCut s taken end.lines events
+  pub given_up : (end.status == 5 || end.status == 6) ≡ true → events ≡ said_before s end.lines
+
+-- The session is the machine's, and it said these events, as far as the screen took them. Each live recorder has gained
+-- their logs, in the old order; or it has failed, its count has risen, it has gained a part, and it is lost.
+pub record KeepsLogs {F S K R : Type 0} (fs : FilesOf F) (src : SourceOf S) (sk : SinkOf K) (rc : RecorderOf R) (words : List (List ℕ)) (begun : F) (was : S) (opened : K) (old : Recording R) (end : SessionEnd) (files : F) (input : S) (screen : K) (new : Recording R) : Type 0 where
+  pub session_is : IsSession fs src sk words begun was opened end files input screen
+  pub events : List Event
+  pub said_is : HasSaid (script_by session_is.commands session_is.runs.maps end) (length words + length (lines_of session_is.used)) end events
+  pub gained : Gains sk.tells sk.held opened screen (bytes_of events)
+  pub heard : HaveHeard rc.tells rc.logs rc.faults (logs_of events) old.live old.lost new.live new.lost
+
+-- ## On the way
+
+-- The first commands have been run, their transcript is on the screen, and the recorders have heard it.
+pub record Reached {F K R : Type 0} (fs : FilesOf F) (sk : SinkOf K) (rc : RecorderOf R) (commands : List (List ℕ)) (begun : F) (opened : K) (from : Recording R) (run : Run) (files : F) (screen : K) (to : Recording R) : Type 0 where
   pub maps : Maps
   pub follows : Follows fs (script_of commands maps run) begun run.lines run.state run.refused files
   pub counted : Counted fs (script_of commands maps run) begun run.lines files
   pub gained : Gains sk.tells sk.held opened screen (session (script_of commands maps run) run.lines).text
+  pub shows : Shows sk rc opened from screen to (said (script_of commands maps run) run.lines)

@@ -9,3 +9,5 @@ pub mod Session
 pub mod Taken
 pub mod Turns
 pub mod Saves
+pub mod Logs
+pub mod Hearing

@@ -1,6 +1,8 @@
 ghost use Rattle.std.specs.Prelude.{◌≡◌, ◌+◌, ◌<◌, IsTrue};
 ghost use Rattle.mm_shell.specs.Sound.{IsSound};
-ghost use Rattle.mm_session.specs.Advance.{Advances, IsLine};
+ghost use Rattle.mm_step.specs.Asked.{asked_of};
+ghost use Rattle.mm_step.specs.Logs.{IsLogChange, log_change};
+ghost use Rattle.mm_session.specs.Advance.{Advances, IsLine, is_refused_by};
 
 use crate::run::Run;
 use mm_base::{Files, Steps};
@@ -30,6 +32,7 @@ pub fn advance<F: Files, L: Ledger>(
     requires fits { run.old.lines + 1 < 18446744073709551616 }
     requires sound { IsSound run.old.state }
     ensures lines { run.new.lines ≡ run.old.lines + 1 }
+    ensures log { IsLogChange (log_change (is_refused_by result) (asked_of line.now)) run.old.state.log_open run.new.state.log_open }
     ensures goes { (whole : _) (commands : _) (maps : _) (begun : _) → IsLine line.now whole → Advances ⟦<F as Files>⟧ commands maps begun run.old files.old whole result run.new files.new }
 {
     run.lines += 1;

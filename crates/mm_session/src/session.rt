@@ -1,6 +1,7 @@
-ghost use Rattle.std.specs.Prelude.{◌≡◌, ◌≢◌};
+ghost use Rattle.std.specs.Prelude.{◌≡◌, ◌≢◌, false};
 ghost use Rattle.mm_base.specs.Outside.{RoseBy};
-ghost use Rattle.mm_session.specs.Headline.{IsSession};
+ghost use Rattle.mm_session.specs.Headline.{IsSession, KeepsLogs};
+ghost use Rattle.mm_session.specs.Hearing.{AreReady, recording, telling};
 ghost use Rattle.mm_session.specs.Laws.{RefusedChangesNothing, SessionIsSound};
 ghost use Rattle.mm_session.specs.Saves.{DatabasesAreFromFiles, PutsTheDatabase, WrittenTheoremsHold};
 
@@ -10,7 +11,7 @@ use crate::run::Run;
 use crate::turn::{Turn, take_turn};
 use crate::word::Word;
 use arrayvec::ArrayVec;
-use mm_base::{Files, Sink, Source, Steps};
+use mm_base::{Files, Recorder, Recorders, Sink, Source, Steps};
 use std::alloc::Global;
 use std::sync::ledger::Ledger;
 
@@ -31,17 +32,27 @@ pub struct SessionEnd {
 
 /// Runs commands one after another: the words, and then the lines of the input, up to EXIT or the end of the input.
 ///
-/// Before each it writes the prompt, and only then reads a line. Then it writes the line, and the text of its answer.
+/// Before each it writes the prompt, and only then reads a line. Then it writes the line, and the text of its answer. The
+/// recorders hear what the screen has taken while a log is open. They must be ready, with no log open.
 pub fn run_session<F: Files, S: Source, K: Sink, L: Ledger>(
     alloc: Global,
     words: &[Word],
     files: &mut F,
     input: &mut S,
     screen: &mut K,
+    recorders: &mut Recorders,
     steps: &mut Steps<L>,
 ) -> SessionEnd
+    requires closed { recorders.old.begun ≡ false }
+    requires ready { AreReady ⟦<dyn Recorder as Recorder>⟧ recorders.old }
+
     // The session is the machine's, over the maps that its commands met.
     ensures session { IsSession ⟦<F as Files>⟧ ⟦<S as Source>⟧ ⟦<K as Sink>⟧ words.now files.old input.old screen.old result files.new input.new screen.new }
+
+    // Each live recorder has gained the logs of the session, or has failed and is lost with a part of them. No log is open.
+    ensures logs { KeepsLogs ⟦<F as Files>⟧ ⟦<S as Source>⟧ ⟦<K as Sink>⟧ (telling ⟦<dyn Recorder as Recorder>⟧) words.now files.old input.old screen.old (recording recorders.old) result files.new input.new screen.new (recording recorders.new) }
+    ensures closed { recorders.new.begun ≡ false }
+    ensures ready { AreReady ⟦<dyn Recorder as Recorder>⟧ recorders.new }
 
     // In every session of the machine a command that is refused or gives up changes nothing, a proof in hand is valid for its theorem, each theorem whose last save was complete is
     // accepted in every file written since, and a file that is written is the database that was read, with the saved proofs.
@@ -62,7 +73,7 @@ pub fn run_session<F: Files, S: Source, K: Sink, L: Ledger>(
         Ok(commands) => commands,
         Err(_) => return ended(run, 5),
     };
-    let mut output = Output::new(screen);
+    let mut output = Output::new(screen, recorders);
     loop {
         match take_turn(
             alloc,
@@ -74,7 +85,10 @@ pub fn run_session<F: Files, S: Source, K: Sink, L: Ledger>(
             steps,
         ) {
             Turn::GoesOn => {}
-            Turn::Ended(status) => return ended(run, status),
+            Turn::Ended(status) => {
+                output.end();
+                return ended(run, status);
+            }
         }
     }
 }

@@ -4,5 +4,9 @@
 mod close_log;
 mod commands;
 mod open_log;
+mod set_brackets;
+mod set_empty;
+mod set_trials;
+mod set_undo;
 
 pub use commands::answer;

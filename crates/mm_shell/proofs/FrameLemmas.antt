@@ -9,11 +9,11 @@ use Rattle.mm_subst.specs.Statements.{statement_of}
 use Rattle.mm_save.proofs.Agreeing.{Agree, replaced_agrees, statement_same}
 use Rattle.mm_save.proofs.Moving.{valid_moved}
 use Rattle.mm_splice.specs.Judging.{JudgesTheRest}
-use Rattle.mm_splice.proofs.Verdicts.{judges_the_rest}
-use Rattle.mm_stack.specs.Decoding.{proof_of}
+use Rattle.mm_splice.proofs.Verdicts.{decoded_where, judges_the_rest}
+use Rattle.mm_proof.specs.Decoding.{proof_of}
 use Rattle.mm_shell.specs.Actions.{Origin, File}
 use Rattle.mm_shell.specs.Answers.{Answer}
-use Rattle.mm_shell.specs.Changes.{apply_change, saved_proof, state_after}
+use Rattle.mm_shell.specs.Changes.{apply_change, proof_after, state_after}
 use Rattle.mm_shell.specs.Fitting.{IsLoading, OpensIn, IsSaving, SavesIn, IsFit, Fits, FittingStaysSound, RefusedStays, OnlySavesChange, LoadsTheOrigin, SavedTheoremsHold, IsSilentEnd, EndsSilently, ReportsHold, MadeIn, SavesCanBeMade}
 use Rattle.mm_shell.specs.OpenProofs.{ProofState, after_save}
 use Rattle.mm_shell.specs.Saves.{Save, save_in, saved_by, with_save, last_complete, Holds, HoldsIn}
@@ -25,7 +25,8 @@ use Rattle.mm_shell.specs.declared.answer.Done.{Done}
 use Rattle.mm_shell.specs.declared.report.Report.{Report}
 use Rattle.mm_shell.specs.declared.report.Report.TheVariants.{Nothing}
 use Rattle.mm_shell.specs.Texts.{report_text}
-use Rattle.mm_shell.specs.declared.answer.Change.TheVariants.{Stays, Loads, Opens, Saves, Writes, Leaves, OpensLog, ClosesLog, Ends}
+use Rattle.mm_shell.proofs.HistoryLemmas.{undoes_sound, redoes_sound, sets_undo_sound}
+use Rattle.mm_shell.specs.declared.answer.Change.TheVariants.{Stays, Loads, Opens, Saves, Undoes, Redoes, SetsUndo, SetsTrials, SetsBrackets, Writes, Leaves, OpensLog, ClosesLog, Ends}
 
 -- ## A sound state stays sound
 
@@ -65,7 +66,7 @@ agreeing bytes x fit = subst (Agree bytes) (sym fit.is) (replaced_agrees bytes x
 read_after : (bytes : List ℕ) (x : Saving) → IsSaving bytes x → is_read x.database ≡ true
 read_after bytes x fit = subst (λ (b : List ℕ). is_read b ≡ true) (sym fit.is) fit.keeps.read
 
-saves : (database : Option (List ℕ)) (old : Option ProofState) (x : Saving) → AreSound database old → SavesIn database x → AreSound (Some x.database) (saved_proof old)
+saves : (database : Option (List ℕ)) (old : Option ProofState) (x : Saving) → AreSound database old → SavesIn database x → AreSound (Some x.database) (proof_after after_save old)
 saves None old x h fit = absurd fit
 saves (Some bytes) None x h fit = read_after bytes x fit
 saves (Some bytes) (Some p) x h fit = (read_after bytes x fit, moved bytes x.database (agreeing bytes x fit) p h.1)
@@ -75,6 +76,11 @@ change_sound origin s Stays h fit = h
 change_sound origin s (Loads bytes) h fit = loads origin s bytes fit
 change_sound origin s (Opens p) h fit = opens s.database s.open_proof p h fit
 change_sound origin s (Saves x) h fit = saves s.database s.open_proof x h fit
+change_sound origin s Undoes h fit = undoes_sound s.database s.open_proof h
+change_sound origin s Redoes h fit = redoes_sound s.database s.open_proof h
+change_sound origin s (SetsUndo n) h fit = sets_undo_sound n s.database s.open_proof h
+change_sound origin s (SetsTrials n) h fit = h
+change_sound origin s (SetsBrackets on) h fit = h
 change_sound origin s Writes h fit = h
 change_sound origin s Leaves h fit = without_proof s.database s.open_proof h
 change_sound origin s OpensLog h fit = h
@@ -111,6 +117,11 @@ change_by origin s done bytes fit is = at done.change fit.0 where
   at (Loads b) fit = absurd (never s.database bytes fit.none is)
   at (Opens p) fit = is
   at (Saves x) fit = saves_change s.database x bytes fit is
+  at Undoes fit = is
+  at Redoes fit = is
+  at (SetsUndo n) fit = is
+  at (SetsTrials n) fit = is
+  at (SetsBrackets on) fit = is
   at Writes fit = is
   at Leaves fit = is
   at OpensLog fit = is
@@ -126,6 +137,11 @@ comes_by origin s bytes none (Loads b) fit e = fit.comes ∙ ap File (some_same 
 comes_by origin s bytes none (Saves x) fit e = absurd (subst (λ (d : Option (List ℕ)). SavesIn d x) none fit)
 comes_by origin s bytes none Stays fit e = absurd (never s.database bytes none e)
 comes_by origin s bytes none (Opens p) fit e = absurd (never s.database bytes none e)
+comes_by origin s bytes none Undoes fit e = absurd (never s.database bytes none e)
+comes_by origin s bytes none Redoes fit e = absurd (never s.database bytes none e)
+comes_by origin s bytes none (SetsUndo n) fit e = absurd (never s.database bytes none e)
+comes_by origin s bytes none (SetsTrials n) fit e = absurd (never s.database bytes none e)
+comes_by origin s bytes none (SetsBrackets on) fit e = absurd (never s.database bytes none e)
 comes_by origin s bytes none Writes fit e = absurd (never s.database bytes none e)
 comes_by origin s bytes none Leaves fit e = absurd (never s.database bytes none e)
 comes_by origin s bytes none OpensLog fit e = absurd (never s.database bytes none e)
@@ -152,8 +168,7 @@ others_hold bytes x read fit theorem other h =
     subst (λ (b : List ℕ). Holds b theorem) (sym fit.is) (record {
       own = subst (λ (ls : List (List ℕ)). theorem < length ls) (sym (replaced_agrees bytes at text fit.keeps).labels) h.own;
       kind = (replaced_agrees bytes at text fit.keeps).kinds theorem ∙ h.kind;
-      normal = judges.compressed_kept theorem other ∙ h.normal;
-      accepted = judges.verdicts_kept theorem other ∙ h.accepted;
+      accepted = let d = decoded_where bytes theorem h.accepted in judges.same_verdicts theorem d.0 other d.1 ∙ h.accepted;
     })
 
 saves_hold : (database : Option (List ℕ)) (p : Option ProofState) (x : Saving) (theorem : ℕ) (before : Bool) → AreSound database p → SavesIn database x → (before ≡ true → HoldsIn database theorem)
@@ -170,6 +185,11 @@ hold_after origin s done theorem before h Stays fit known e = known e
 hold_after origin s done theorem before h (Loads b) fit known e = absurd (subst (λ (d : Option (List ℕ)). HoldsIn d theorem) fit.none (known e))
 hold_after origin s done theorem before h (Opens p) fit known e = known e
 hold_after origin s done theorem before h (Saves x) fit known e = saves_hold s.database s.open_proof x theorem before h fit known e
+hold_after origin s done theorem before h Undoes fit known e = known e
+hold_after origin s done theorem before h Redoes fit known e = known e
+hold_after origin s done theorem before h (SetsUndo n) fit known e = known e
+hold_after origin s done theorem before h (SetsTrials n) fit known e = known e
+hold_after origin s done theorem before h (SetsBrackets on) fit known e = known e
 hold_after origin s done theorem before h Writes fit known e = known e
 hold_after origin s done theorem before h Leaves fit known e = known e
 hold_after origin s done theorem before h OpensLog fit known e = known e
@@ -189,6 +209,11 @@ ends_quietly origin s Stays report silent on off = absurd (true≢false (sym off
 ends_quietly origin s (Loads b) report silent on off = absurd (true≢false (sym off ∙ on))
 ends_quietly origin s (Opens p) report silent on off = absurd (true≢false (sym off ∙ on))
 ends_quietly origin s (Saves x) report silent on off = absurd (true≢false (sym off ∙ on))
+ends_quietly origin s Undoes report silent on off = absurd (true≢false (sym off ∙ on))
+ends_quietly origin s Redoes report silent on off = absurd (true≢false (sym off ∙ on))
+ends_quietly origin s (SetsUndo n) report silent on off = absurd (true≢false (sym off ∙ on))
+ends_quietly origin s (SetsTrials n) report silent on off = absurd (true≢false (sym off ∙ on))
+ends_quietly origin s (SetsBrackets b) report silent on off = absurd (true≢false (sym off ∙ on))
 ends_quietly origin s Writes report silent on off = absurd (true≢false (sym off ∙ on))
 ends_quietly origin s Leaves report silent on off = absurd (true≢false (sym off ∙ on))
 ends_quietly origin s OpensLog report silent on off = absurd (true≢false (sym off ∙ on))
@@ -220,6 +245,11 @@ made_by origin s done (Saves x) fit = made_in s.database x fit
 made_by origin s done Stays fit = nothing_made s.database
 made_by origin s done (Loads b) fit = nothing_made s.database
 made_by origin s done (Opens p) fit = nothing_made s.database
+made_by origin s done Undoes fit = nothing_made s.database
+made_by origin s done Redoes fit = nothing_made s.database
+made_by origin s done (SetsUndo n) fit = nothing_made s.database
+made_by origin s done (SetsTrials n) fit = nothing_made s.database
+made_by origin s done (SetsBrackets on) fit = nothing_made s.database
 made_by origin s done Writes fit = nothing_made s.database
 made_by origin s done Leaves fit = nothing_made s.database
 made_by origin s done OpensLog fit = nothing_made s.database

@@ -1,3 +1,4 @@
 pub mod FindLemmas
 pub mod FitLemmas
 pub mod FrameLemmas
+pub mod HistoryLemmas

@@ -1,11 +1,11 @@
 -- What a command answers, and the words with which its definition is written.
 use Rattle.std.specs.Prelude.{◌≡◌, ◌||◌, ℕ, Bool, true, false, List, [], ◌∷◌, Option, Some, None, Result, Ok, Err, is_err, if◌then◌else◌}
 use Rattle.mm_shell.specs.declared.refusal.Refusal.{Refusal}
-use Rattle.mm_shell.specs.declared.refusal.Refusal.TheVariants.{WrongWord, LineTooLong, NoDatabase, AlreadyRead, ProofOpen, NoProofOpen, ProofNotSaved, NotWritten, NoLog, FileFault, OutOfMemory, LogKept, NotBuilt}
+use Rattle.mm_shell.specs.declared.refusal.Refusal.TheVariants.{WrongWord, LineTooLong, NoDatabase, AlreadyRead, ProofOpen, NoProofOpen, NothingToUndo, NothingToRedo, ProofNotSaved, NotWritten, NoLog, FileFault, OutOfMemory, LogKept, NotBuilt}
 use Rattle.mm_shell.specs.declared.report.Report.{Report}
-use Rattle.mm_shell.specs.declared.report.Report.TheVariants.{Nothing, LogOpened, LogClosed, Counts}
+use Rattle.mm_shell.specs.declared.report.Report.TheVariants.{Nothing, LogOpened, LogClosed, Counts, Undone, Redone, UndoDepth, Trials, Brackets, NoEmptyStrings}
 use Rattle.mm_shell.specs.declared.answer.Change.{Change}
-use Rattle.mm_shell.specs.declared.answer.Change.TheVariants.{Stays, Loads, Opens, Saves}
+use Rattle.mm_shell.specs.declared.answer.Change.TheVariants.{Stays, Loads, Opens, Saves, SetsUndo}
 use Rattle.mm_shell.specs.declared.answer.Done.{Done}
 
 -- why it is refused, or what it reports and changes
@@ -59,6 +59,8 @@ refusal_takes NoDatabase = false
 refusal_takes AlreadyRead = false
 refusal_takes ProofOpen = false
 refusal_takes NoProofOpen = false
+refusal_takes NothingToUndo = false
+refusal_takes NothingToRedo = false
 refusal_takes ProofNotSaved = false
 refusal_takes NotWritten = false
 refusal_takes NoLog = false
@@ -72,12 +74,19 @@ report_takes Nothing = false
 report_takes LogOpened = false
 report_takes LogClosed = false
 report_takes (Counts steps unknown pending) = false
+report_takes Undone = false
+report_takes Redone = false
+report_takes (UndoDepth n) = false
+report_takes (Trials n) = false
+report_takes (Brackets on) = false
+report_takes NoEmptyStrings = false
 report_takes _ = true
 
 abbrev pub change_takes : Change → Bool
 change_takes (Loads bytes) = true
 change_takes (Opens p) = true
 change_takes (Saves x) = true
+change_takes (SetsUndo n) = true
 change_takes _ = false
 
 abbrev pub takes : Answer → Bool

@@ -3,7 +3,7 @@ use Rattle.std.specs.Prelude.{◌≡◌, ◌<◌, ℕ, Bool, true, false, List, 
 use Rattle.mm_shell.specs.Texts.{text_of as answer_text}
 use Rattle.mm_base.specs.Files.{Map}
 use Rattle.mm_scope.specs.Contents.{is_read, labels_of, stated_at}
-use Rattle.mm_stack.specs.Decoding.{is_compressed, proof_of}
+use Rattle.mm_proof.specs.Decoding.{proof_of}
 use Rattle.mm_splice.specs.Agreeing.{CanBeMade}
 use Rattle.mm_splice.specs.Keeping.{KeepsTheRest}
 use Rattle.mm_splice.specs.Splicing.{spliced}
@@ -64,7 +64,6 @@ IsSilentEnd change report = Unit {0}
 pub record IsChecked (bytes : List ℕ) (check : Check) : Type 0 where
   pub own : check.theorem.0 < length (labels_of bytes)
   pub theorem : (stated_at bytes check.theorem.0).kind ≡ Theorem
-  pub normal : is_compressed bytes check.theorem.0 ≡ false
   pub is : check.verdict ≡ verdict_of bytes check.theorem.0
 
 -- the proofs that are told of are those of the database

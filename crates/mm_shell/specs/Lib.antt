@@ -1,5 +1,4 @@
 pub mod OpenProofs
-pub mod Lending
 pub mod Answers
 pub mod Actions
 pub mod Changes
@@ -8,5 +7,6 @@ pub mod Sound
 pub mod Finding
 pub mod Fitting
 pub mod Lines
+pub mod Listings
 pub mod Texts
 pub mod Verdicts

@@ -3,7 +3,7 @@ use Rattle.std.specs.Prelude.{◌<◌, length, ◌≡◌, ◌==◌, ℕ, Bool, t
 use Rattle.mm_scope.specs.Contents.{labels_of, stated_at}
 use Rattle.mm_stated.specs.declared.statement.Kind.TheVariants.{Theorem}
 use Rattle.mm_stack.specs.Accepting.{verdict_of}
-use Rattle.mm_stack.specs.Decoding.{is_compressed, proof_of}
+use Rattle.mm_proof.specs.Decoding.{proof_of}
 use Rattle.mm_stack.specs.declared.outcome.Verdict.TheVariants.{Accepted}
 use Rattle.mm_splice.specs.Splicing.{spliced}
 use Rattle.mm_shell.specs.Answers.{Answer}
@@ -38,11 +38,10 @@ abbrev pub last_complete : ℕ → Option Save → Bool → Bool
 last_complete theorem None before = before
 last_complete theorem (Some save) before = if theorem == save.theorem then save.complete else before
 
--- a database says that its theorem with a number holds: its proof is a normal one, and accepted
+-- a database says that its theorem with a number holds: its proof is accepted
 pub record Holds (bytes : List ℕ) (theorem : ℕ) : Type 0 where
   pub own : theorem < length (labels_of bytes)
   pub kind : (stated_at bytes theorem).kind ≡ Theorem
-  pub normal : is_compressed bytes theorem ≡ false
   pub accepted : verdict_of bytes theorem ≡ Accepted
 
 abbrev pub HoldsIn : Option (List ℕ) → ℕ → Type 0

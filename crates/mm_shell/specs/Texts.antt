@@ -6,11 +6,12 @@ use Rattle.mm_scope.specs.Faults.{number_of, place_of}
 use Rattle.mm_scope.specs.declared.fault.ReadFault.{ReadFault}
 use Rattle.mm_shell.specs.Answers.{Answer}
 use Rattle.mm_shell.specs.Lines.{line_of, numbered}
+use Rattle.mm_shell.specs.Listings.{statements_text}
 use Rattle.mm_shell.specs.Verdicts.{checks_text}
 use Rattle.mm_shell.specs.declared.refusal.Refusal.{Refusal}
-use Rattle.mm_shell.specs.declared.refusal.Refusal.TheVariants.{WrongWord, LineTooLong, NoDatabase, AlreadyRead, NoFile, BadDatabase, NoStatement, NotTheorem, Guarded, ProofOpen, NoProofOpen, TooManySteps, TooDeep, NoStep, NotEarlier, NotActive, NoMatch, TooLong, NotUnified, ProofNotSaved, NotWritten, NoLog, FileFault, OutOfMemory, LogKept, NotBuilt, NotBuiltHere, NeedsWork}
+use Rattle.mm_shell.specs.declared.refusal.Refusal.TheVariants.{WrongWord, LineTooLong, NoDatabase, AlreadyRead, NoFile, BadDatabase, NoStatement, NotTheorem, Guarded, ProofOpen, NoProofOpen, TooManySteps, TooDeep, NoStep, NotEarlier, NotActive, NoMatch, TooLong, NotUnified, NothingToUndo, NothingToRedo, ProofNotSaved, NotWritten, NoLog, FileFault, OutOfMemory, LogKept, NotBuilt, NotBuiltHere, NeedsWork}
 use Rattle.mm_shell.specs.declared.report.Report.{Report}
-use Rattle.mm_shell.specs.declared.report.Report.TheVariants.{Nothing, Loaded, Verified, Wrote, LogOpened, LogClosed, Counts, Saved}
+use Rattle.mm_shell.specs.declared.report.Report.TheVariants.{Nothing, Loaded, Verified, Listed, Wrote, LogOpened, LogClosed, Counts, Undone, Redone, UndoDepth, Trials, Brackets, NoEmptyStrings, Saved}
 
 -- ## Refusals
 
@@ -45,6 +46,8 @@ refusal_text (NotActive label) = numbered 21 (codes "hypothesis " ++ (label ++ l
 refusal_text (NoMatch step) = numbered 22 (codes "step " ++ (decimal step ++ line_of (codes " has no unifier")))
 refusal_text TooLong = numbered 23 (line_of (codes "limit: length"))
 refusal_text (NotUnified step) = numbered 32 (codes "step " ++ (decimal step ++ line_of (codes " is not unified")))
+refusal_text NothingToUndo = numbered 34 (line_of (codes "nothing to undo"))
+refusal_text NothingToRedo = numbered 35 (line_of (codes "nothing to redo"))
 refusal_text ProofNotSaved = numbered 36 (line_of (codes "the proof is not saved"))
 refusal_text NotWritten = numbered 37 (line_of (codes "the database is not written"))
 refusal_text NoLog = numbered 38 (line_of (codes "no log"))
@@ -67,6 +70,14 @@ unfoldable pub counts_text : ℕ → ℕ → ℕ → List ℕ
 counts_text steps unknown pending =
     codes "Steps " ++ (decimal steps ++ (codes ", unknown " ++ (decimal unknown ++ (codes ", pending " ++ (decimal pending ++ (codes "." ++ 10 ∷ []))))))
 
+-- with a number at its end
+unfoldable pub setting_text : List ℕ → ℕ → List ℕ
+setting_text words n = words ++ (decimal n ++ line_of (codes "."))
+
+abbrev pub brackets_text : Bool → List ℕ
+brackets_text true = line_of (codes "Brackets ON.")
+brackets_text false = line_of (codes "Brackets OFF.")
+
 -- by whether some step is unknown
 abbrev pub state_word : Bool → List ℕ
 state_word true = codes ": incomplete, "
@@ -79,10 +90,17 @@ abbrev pub report_text : Report → List ℕ
 report_text Nothing = []
 report_text (Loaded labelled axioms theorems) = loaded_text labelled axioms theorems
 report_text (Verified bytes checks) = checks_text bytes checks
+report_text (Listed bytes ids) = statements_text bytes ids
 report_text (Wrote name) = wrote_text name
 report_text LogOpened = line_of (codes "Log opened.")
 report_text LogClosed = line_of (codes "Log closed.")
 report_text (Counts steps unknown pending) = counts_text steps unknown pending
+report_text Undone = line_of (codes "Undone.")
+report_text Redone = line_of (codes "Redone.")
+report_text (UndoDepth n) = setting_text (codes "Undo depth ") n
+report_text (Trials n) = setting_text (codes "Trials ") n
+report_text (Brackets on) = brackets_text on
+report_text NoEmptyStrings = line_of (codes "Empty substitution OFF.")
 report_text (Saved label some_unknown steps) = saved_text label some_unknown steps
 
 abbrev pub text_of : Answer → List ℕ

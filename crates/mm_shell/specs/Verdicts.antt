@@ -3,7 +3,7 @@ use Rattle.std.specs.Prelude.{ℕ, Bool, true, false, List, [], ◌∷◌, ◌++
 use Rattle.std.specs.List.{flat_map}
 use Rattle.std.specs.Fmt.{decimal}
 use Rattle.mm_scope.specs.Contents.{symbols_of}
-use Rattle.mm_stack.specs.Faults.{number_of, place_of}
+use Rattle.mm_proof.specs.Faults.{number_of, place_of}
 use Rattle.mm_stack.specs.declared.outcome.StackFault.{StackFault}
 use Rattle.mm_stack.specs.declared.outcome.StackFault.TheVariants as fault
 use Rattle.mm_stack.specs.declared.outcome.Verdict.{Verdict}

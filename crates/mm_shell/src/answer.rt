@@ -3,6 +3,7 @@
 use crate::open_proof::OpenProof;
 use crate::report::Report;
 use mm_scope::{Database, StmtId};
+use mm_undo::Rings;
 
 /// A save: the database with the proof in it, the theorem whose proof it is, and whether each of its steps is known.
 #[derive(Drop)]
@@ -22,6 +23,16 @@ pub enum Change {
     Opens(OpenProof),
     /// The open proof is saved.
     Saves(Saving),
+    /// The open proof goes back to what it was before the last edit.
+    Undoes,
+    /// The open proof goes forward to what was undone last.
+    Redoes,
+    /// Histories keep as many versions as these rings hold, and that of the open proof moves into them.
+    SetsUndo(Rings),
+    /// Searches for unifiers have so many trials.
+    SetsTrials(u32),
+    /// Whether unifiers must keep brackets in pairs.
+    SetsBrackets(bool),
     /// The database is written.
     Writes,
     /// The open proof is left.

@@ -1,10 +1,12 @@
 ghost use Rattle.std.specs.Prelude.{◌≡◌, Some};
 ghost use Rattle.mm_shell.specs.Changes.{apply_change};
+ghost use Rattle.mm_shell.specs.declared.answer.Change.TheVariants.{SetsUndo};
 
 use crate::answer::Change;
 use crate::open_proof::OpenProof;
 use crate::state::State;
 use mm_scope::Database;
+use mm_undo::Rings;
 use std::mem;
 
 /// Makes a change in the state.
@@ -22,6 +24,19 @@ pub fn apply_change(state: &mut State, change: Change)
             }
             state.unwritten = true;
         }
+        Change::Undoes => {
+            if let Some(proof) = &mut state.open_proof {
+                proof.undo();
+            }
+        }
+        Change::Redoes => {
+            if let Some(proof) = &mut state.open_proof {
+                proof.redo();
+            }
+        }
+        Change::SetsUndo(rings) => set_undo(state, rings),
+        Change::SetsTrials(n) => state.settings.trials = n,
+        Change::SetsBrackets(on) => state.settings.rule.brackets = on,
         Change::Writes => state.unwritten = false,
         Change::Leaves => set_proof(&mut state.open_proof, None),
         Change::OpensLog => state.log_open = true,
@@ -41,4 +56,15 @@ fn set_database(slot: &mut Option<Database>, database: Database)
     ensures { slot.new ≡ Some database }
 {
     drop(mem::replace(slot, Some(database)));
+}
+
+// Histories keep as many versions as these rings hold, now and later.
+fn set_undo(state: &mut State, rings: Rings)
+    ensures { state.new ≡ apply_change (SetsUndo rings) state.old }
+{
+    state.undo_depth = rings.depth();
+    match &mut state.open_proof {
+        Some(proof) => proof.move_history(rings),
+        None => drop(rings),
+    }
 }

@@ -1,28 +1,30 @@
 ghost use Rattle.std.specs.Prelude.{◌≡◌, ◌<◌, IfOk, length, slice_get};
-ghost use Rattle.std.specs.Borrow.{sem};
 ghost use Rattle.mm_plain.specs.Numbers.{HasOwnLabels, labels_in, pending_in};
 ghost use Rattle.mm_plain.specs.Shape.{size_of};
 ghost use Rattle.mm_scope.specs.Contents.{labels_of};
-ghost use Rattle.mm_shell.specs.OpenProofs.{after_save, start_of, with_mark};
+ghost use Rattle.mm_shell.specs.OpenProofs.{after_redo, after_save, after_undo, start_of, with_depth};
 
 use mm_scope::{Database, StmtId};
 use mm_tree::{Memory, Tree};
+use mm_undo::{History, Rings};
 use std::alloc::Global;
 use std::marker::Model;
 
 /// An open proof: its theorem, how far it has come, what it was before its edits and what was undone, and whether it was
 /// changed since it was opened or saved.
+///
+/// Whoever has it holds a history of the tree, and a tree without drafts. An edit makes drafts in the tree, and ends in
+/// `History::accept`, or goes back.
 #[derive(Drop)]
 pub struct OpenProof {
-    theorem: StmtId,
-    tree: Tree,
-    past: Vec<Tree>,
-    future: Vec<Tree>,
-    changed: bool,
+    pub theorem: StmtId,
+    pub tree: Tree,
+    pub history: History,
+    pub changed: bool,
 }
 
 impl Model for OpenProof {
-    ghost use Rattle.mm_shell.specs.OpenProofs.{ProofState, proofs_of};
+    ghost use Rattle.mm_shell.specs.OpenProofs.{IsAtRest, ProofState, seen_as};
     ghost use Rattle.mm_plain.specs.contracts.plain.Plain as e;
     ghost use Rattle.std.specs.Coded.{codes};
 
@@ -30,23 +32,28 @@ impl Model for OpenProof {
 
     ghost coded = { Prim.hlevel (codes, e.the_row.coded) };
 
-    ghost view = { λ p. record { theorem = p.theorem.0; proof = p.tree.proof; past = proofs_of p.past.items; future = proofs_of p.future.items; changed = p.changed } };
+    ghost view = { λ p. seen_as p.theorem.0 p.tree p.history p.changed };
+
+    ghost invariant = { λ p. IsAtRest p.tree.versions p.history };
 }
 
 impl OpenProof {
-    ghost use Rattle.mm_shell.specs.Lending.{LendsTree};
-
-    /// The proof of a theorem as it begins: one unknown step.
-    pub fn start(alloc: Global, database: &Database, theorem: StmtId) -> Result<OpenProof, Memory>
+    /// The proof of a theorem as it begins: one unknown step, and a history that keeps so many versions.
+    pub fn start(
+        alloc: Global,
+        database: &Database,
+        theorem: StmtId,
+        depth: u32,
+    ) -> Result<OpenProof, Memory>
         requires { theorem.0 < length (labels_of database.now) }
-        ensures { IfOk result (λ p. p ≡ start_of database.now theorem.0) }
+        ensures { IfOk result (λ p. p ≡ start_of database.now theorem.0 depth) }
     {
         let tree = Tree::start(alloc, database, theorem)?;
+        let history = History::new(alloc, depth)?;
         Ok(OpenProof {
             theorem,
             tree,
-            past: Vec::new(alloc),
-            future: Vec::new(alloc),
+            history,
             changed: false,
         })
     }
@@ -63,6 +70,20 @@ impl OpenProof {
         ensures { result.now.proof ≡ self.now.proof }
     {
         &self.tree
+    }
+
+    /// How many versions can be undone.
+    pub fn past_count(&self) -> usize
+        ensures { result ≡ length self.now.past }
+    {
+        self.history.past_count()
+    }
+
+    /// How many versions can be done again.
+    pub fn future_count(&self) -> usize
+        ensures { result ≡ length self.now.future }
+    {
+        self.history.future_count()
     }
 
     /// Whether it was changed since it was opened or saved.
@@ -95,19 +116,29 @@ impl OpenProof {
         Ok(pending.first().copied())
     }
 
-    /// Its tree, to be edited. Where it is edited, `note_edit` has to follow.
-    pub fn tree_mut(&mut self) -> &mut Tree
-        ensures* writes_back { sem 𝓛 (LendsTree self.entry result) }
-        ensures value { result.now.proof ≡ self.old.proof }
+    /// Goes back to the proof before the last edit, where there was one.
+    pub fn undo(&mut self)
+        ensures { self.new ≡ after_undo self.old }
     {
-        &mut self.tree
+        if self.history.undo(&mut self.tree) {
+            self.changed = true;
+        }
     }
 
-    /// Marks it as changed.
-    pub fn note_edit(&mut self)
-        ensures { self.new ≡ with_mark self.old }
+    /// Goes forward to the proof that was undone last, where there is one.
+    pub fn redo(&mut self)
+        ensures { self.new ≡ after_redo self.old }
     {
-        self.changed = true;
+        if self.history.redo(&mut self.tree) {
+            self.changed = true;
+        }
+    }
+
+    /// Moves its history into other rings: the newest proofs of the past that they hold stay, and nothing is left to redo.
+    pub fn move_history(&mut self, rings: Rings)
+        ensures { self.new ≡ with_depth rings self.old }
+    {
+        self.history.move_to(rings);
     }
 
     /// Marks it as saved.

@@ -35,6 +35,8 @@ pub enum Refusal<'a> {
     TooLong,
     /// The step with this number is pending.
     NotUnified(u32),
+    NothingToUndo,
+    NothingToRedo,
     ProofNotSaved,
     NotWritten,
     NoLog,

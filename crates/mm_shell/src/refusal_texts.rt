@@ -60,6 +60,8 @@ pub fn refusal_text(alloc: Global, refusal: &Refusal<'_>) -> Result<Text, Memory
             *step,
             b" is not unified\n",
         )),
+        Refusal::NothingToUndo => Ok(Text::refusal(alloc, 34, b"nothing to undo\n")),
+        Refusal::NothingToRedo => Ok(Text::refusal(alloc, 35, b"nothing to redo\n")),
         Refusal::ProofNotSaved => Ok(Text::refusal(alloc, 36, b"the proof is not saved\n")),
         Refusal::NotWritten => Ok(Text::refusal(alloc, 37, b"the database is not written\n")),
         Refusal::NoLog => Ok(Text::refusal(alloc, 38, b"no log\n")),

@@ -4,6 +4,7 @@ ghost use Rattle.std.specs.Prelude.{◌≡◌, IfOk, false, true, is_ok};
 ghost use Rattle.mm_shell.specs.Answers.{report_takes};
 ghost use Rattle.mm_shell.specs.Texts.{loaded_text, report_text, saved_text, state_word, wrote_text};
 
+use crate::listing::statements_text;
 use crate::report::Report;
 use crate::text::Text;
 use crate::verdict::checks_text;
@@ -23,12 +24,22 @@ pub fn report_text(alloc: Global, report: &Report<'_>) -> Result<Text, Memory>
         Report::Verified(database, checks) => {
             checks_text(alloc, database.database(), checks.as_slice())
         }
+        Report::Listed(database, statements) => {
+            statements_text(alloc, database.database(), statements.as_slice())
+        }
         Report::Wrote(name) => wrote(alloc, name),
         Report::LogOpened => Ok(Text::fixed(alloc, b"Log opened.\n")),
         Report::LogClosed => Ok(Text::fixed(alloc, b"Log closed.\n")),
         Report::Counts(steps, unknown, pending) => Ok(Text::counts(
             alloc, *steps, *unknown, *pending,
         )),
+        Report::Undone => Ok(Text::fixed(alloc, b"Undone.\n")),
+        Report::Redone => Ok(Text::fixed(alloc, b"Redone.\n")),
+        Report::UndoDepth(n) => Ok(Text::setting(alloc, b"Undo depth ", *n)),
+        Report::Trials(n) => Ok(Text::setting(alloc, b"Trials ", *n)),
+        Report::Brackets(true) => Ok(Text::fixed(alloc, b"Brackets ON.\n")),
+        Report::Brackets(false) => Ok(Text::fixed(alloc, b"Brackets OFF.\n")),
+        Report::NoEmptyStrings => Ok(Text::fixed(alloc, b"Empty substitution OFF.\n")),
         Report::Saved(label, some_unknown, steps) => saved(alloc, label, *some_unknown, *steps),
     }
 }

@@ -3,6 +3,16 @@ ghost use Rattle.mm_shell.specs.Changes.{new_state};
 
 use crate::open_proof::OpenProof;
 use mm_scope::Database;
+use mm_unify::{Rule, Settings};
+
+/// How many trials a search for unifiers has until SET UNIFICATION_TIMEOUT.
+pub const FIRST_TRIALS: u32 = 100_000;
+
+/// Whether unifiers must keep brackets in pairs until SET BRACKETS.
+pub const FIRST_BRACKETS: bool = true;
+
+/// How many versions a history keeps until SET UNDO.
+pub const FIRST_UNDO_DEPTH: u32 = 20;
 
 /// What a session keeps from command to command.
 #[derive(Drop)]
@@ -11,6 +21,10 @@ pub struct State {
     pub database: Option<Database>,
     /// The open proof, if there is one.
     pub open_proof: Option<OpenProof>,
+    /// How unifiers are searched for.
+    pub settings: Settings,
+    /// How many versions the history of a proof keeps.
+    pub undo_depth: u32,
     /// Whether the database was changed after WRITE SOURCE put it into a file last.
     pub unwritten: bool,
     /// Whether a log is open.
@@ -28,6 +42,13 @@ impl State {
         State {
             database: None,
             open_proof: None,
+            settings: Settings {
+                rule: Rule {
+                    brackets: FIRST_BRACKETS,
+                },
+                trials: FIRST_TRIALS,
+            },
+            undo_depth: FIRST_UNDO_DEPTH,
             unwritten: false,
             log_open: false,
             ended: false,

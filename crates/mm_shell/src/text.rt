@@ -1,7 +1,7 @@
 ghost use Rattle.std.specs.Prelude.{◌≡◌, ◌+◌, ◌≤◌, ◌++◌, IfOk, codes, length};
 ghost use Rattle.std.specs.Fmt.{decimal};
 ghost use Rattle.mm_shell.specs.Lines.{numbered};
-ghost use Rattle.mm_shell.specs.Texts.{counts_text};
+ghost use Rattle.mm_shell.specs.Texts.{counts_text, setting_text};
 
 use crate::word::Word;
 use arrayvec::ArrayVec;
@@ -61,6 +61,22 @@ impl Text {
         push_short(&mut front, unknown);
         push_all(&mut front, b", pending ");
         push_short(&mut front, pending);
+        Text {
+            front,
+            words: b".\n",
+            rest: Vec::new(alloc),
+        }
+    }
+
+    /// What a setting is, as a number. It takes no memory.
+    #[tactic(auto, unfolding(crate::specs::Texts::setting_text))]
+    pub fn setting(alloc: Global, before: &'static [u8], n: u32) -> Text
+        requires { length before.now ≤ 20 }
+        ensures { result ≡ setting_text before.now n }
+    {
+        let mut front = ArrayVec::new();
+        push_all(&mut front, before);
+        push_short(&mut front, n);
         Text {
             front,
             words: b".\n",

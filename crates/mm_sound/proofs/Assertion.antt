@@ -37,7 +37,20 @@ module _ (bytes : List ℕ) (sigma : Pairs) (constant : (n : ℕ) → is_variabl
   same_values ms free = fun_ext (λ n. gives bytes sigma constant ms n
       ∙ given (list_any (λ v. n == v) (variables_of (statements_of bytes) ms)) (meaning bytes sigma n) (n ∷ []) (free n))
 
-  -- the assertion pushes its conclusion under the substitution
+  -- the conclusion under the substitution
+  pub concludes : (l : ℕ) (stack : List (List ℕ))
+      → ((n : ℕ) → list_any (λ v. n == v) (variables_of (statements_of bytes) (stated_at bytes l).mandatory) ≡ false → meaning bytes sigma n ≡ n ∷ [])
+      → conclusion_at bytes (stated_at bytes l) (stack ++ map (entry_for bytes sigma) (stated_at bytes l).mandatory) ≡ entry_for bytes sigma l
+  concludes l stack free =
+      let a : Stated = stated_at bytes l in
+      let ms : List ℕ = a.mandatory in
+      let es : List (List ℕ) = map (entry_for bytes sigma) ms in
+      let left : kept a (stack ++ es) ≡ length stack = omega (arith, length-append stack es, length-map ms (entry_for bytes sigma)) in
+      let newest : drop (kept a (stack ++ es)) (stack ++ es) ≡ es = ap (λ n. drop n (stack ++ es)) left ∙ drop-append_seam stack es in
+      let args : popped bytes a (stack ++ es) ≡ map (argument bytes sigma) ms = ap (arguments bytes ms) newest ∙ arguments_are bytes sigma ms in
+      ap (λ v. instance v a.symbols) (ap (λ xs. value_of (substitution_of xs)) args ∙ same_values ms free)
+
+  -- the assertion pushes it
   pub applies : (groups : List (List ℕ)) (l : ℕ) (stack : List (List ℕ)) (k : ℕ)
       → ((n : ℕ) → list_any (λ v. n == v) (variables_of (statements_of bytes) (stated_at bytes l).mandatory) ≡ false → meaning bytes sigma n ≡ n ∷ [])
       → violations bytes groups k (meaning bytes sigma) (stated_at bytes l).pairs ≡ []

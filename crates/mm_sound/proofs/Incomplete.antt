@@ -1,5 +1,5 @@
 -- The machine on a proof with unknown steps.
-use Rattle.std.proofs.Common.{◌≡◌, ◌<◌, ℕ, true, false, ◌||◌, List, [], ◌∷◌, ◌++◌, map, length, Option, None, Some, is_some, is_none, Err, refl, sym, ap, ◌∙◌, subst, append_assoc, append-nil, ◌⊎◌, inl, inr}
+use Rattle.std.proofs.Common.{◌≡◌, ◌<◌, ℕ, true, false, ◌||◌, List, [], ◌∷◌, ◌++◌, map, length, Option, None, Some, is_some, is_none, Ok, Err, refl, sym, ap, ◌∙◌, subst, append_assoc, append-nil, ◌⊎◌, inl, inr}
 use Rattle.std.proofs.lemmas.Bool.{false≢true}
 use Rattle.std.proofs.lemmas.List.Concat.{flat_map-cons}
 use Rattle.std.specs.List.{flat_map, list_any}
@@ -16,43 +16,42 @@ use Rattle.mm_plain.proofs.Kept.{kids-sound}
 use Rattle.mm_plain.proofs.Read.{label_of-known, label_of-unknown}
 use Rattle.mm_stack.specs.Accepting.{verdict_after, verdict_of}
 use Rattle.mm_stack.specs.Accepting as judge
-use Rattle.mm_stack.specs.Decoding.{proof_of}
-use Rattle.mm_stack.specs.Running.{run_from, run}
+use Rattle.mm_proof.specs.Decoding.{proof_of}
+use Rattle.mm_stack.specs.Running.{Progress, after, start, run_from, run}
 use Rattle.mm_stack.specs.declared.outcome.Verdict.TheVariants.{Incomplete}
-use Rattle.mm_stack.specs.declared.step.Step.{Step}
+use Rattle.mm_proof.specs.declared.step.ProofStep.{ProofStep}
 use Rattle.mm_sound.specs.Apart.{KeepsPairs, IsApart}
 use Rattle.mm_sound.specs.Complete.{IsDone, IsComplete, IsSettled, has_unknown, step_for, spelled}
 use Rattle.mm_sound.specs.Written.{texts_in, written}
 use Rattle.mm_sound.proofs.NoWork.{each-append, from_kids}
-use Rattle.mm_sound.proofs.Runs.{Runs, split, spelled-append, tree_runs}
+use Rattle.mm_sound.proofs.Runs.{Runs, after_tree, split, spelled-append, tree_runs}
 use Rattle.mm_sound.proofs.Spelled.{written_spells}
 
 -- the run ends in the tree, at an unknown step
 abbrev Stops : List ℕ → List (List ℕ) → List Plain → Type 0
-Stops bytes groups xs = (stack : List (List ℕ)) (k : ℕ) (rest : List Step) → run_from bytes groups stack k (map (step_for bytes) (map label_of xs) ++ rest) ≡ Err Incomplete
+Stops bytes groups xs = (p : Progress) (rest : List ProofStep) → run_from bytes groups p (map (step_for bytes) (map label_of xs) ++ rest) ≡ Err Incomplete
 
 unknown_stops : (bytes : List ℕ) (groups : List (List ℕ)) (t : List WSym) → Stops bytes groups (steps_of (unknown t))
 unfolding run_from
-unknown_stops bytes groups t stack k rest =
-    ap (λ xs. run_from bytes groups stack k (map (step_for bytes) (map label_of xs) ++ rest)) (steps_of-unknown t)
-    ∙ ap (λ o. run_from bytes groups stack k (step_for bytes o ∷ rest)) (label_of-unknown t)
+unknown_stops bytes groups t p rest =
+    ap (λ xs. run_from bytes groups p (map (step_for bytes) (map label_of xs) ++ rest)) (steps_of-unknown t)
+    ∙ ap (λ o. run_from bytes groups p (step_for bytes o ∷ rest)) (label_of-unknown t)
 
 -- steps that stop, with more before or after them
 stops_then : (bytes : List ℕ) (groups : List (List ℕ)) (xs ys : List Plain) → Stops bytes groups xs → Stops bytes groups (xs ++ ys)
-stops_then bytes groups xs ys h stack k rest =
-    let more : List Step = map (step_for bytes) (map label_of ys) in
-    ap (λ ss. run_from bytes groups stack k (ss ++ rest)) (spelled-append bytes xs ys)
-    ∙ ap (run_from bytes groups stack k) (append_assoc (map (step_for bytes) (map label_of xs)) more rest)
-    ∙ h stack k (more ++ rest)
+stops_then bytes groups xs ys h p rest =
+    let more : List ProofStep = map (step_for bytes) (map label_of ys) in
+    ap (λ ss. run_from bytes groups p (ss ++ rest)) (spelled-append bytes xs ys)
+    ∙ ap (run_from bytes groups p) (append_assoc (map (step_for bytes) (map label_of xs)) more rest)
+    ∙ h p (more ++ rest)
 
 then_stops : (bytes : List ℕ) (groups : List (List ℕ)) (x : Plain) (ys : List Plain) → Runs bytes groups x → Stops bytes groups ys → Stops bytes groups (steps_of x ++ ys)
-then_stops bytes groups x ys run h stack k rest =
-    let more : List Step = map (step_for bytes) (map label_of ys) in
-    let first = run stack k (more ++ rest) in
-    ap (λ ss. run_from bytes groups stack k (ss ++ rest)) (spelled-append bytes (steps_of x) ys)
-    ∙ ap (run_from bytes groups stack k) (append_assoc (spelled bytes x) more rest)
-    ∙ first.1
-    ∙ h (stack ++ _ ∷ []) first.0 rest
+then_stops bytes groups x ys run h p rest =
+    let more : List ProofStep = map (step_for bytes) (map label_of ys) in
+    ap (λ ss. run_from bytes groups p (ss ++ rest)) (spelled-append bytes (steps_of x) ys)
+    ∙ ap (run_from bytes groups p) (append_assoc (spelled bytes x) more rest)
+    ∙ run p (more ++ rest)
+    ∙ h (after_tree p x) rest
 
 -- a tree is complete, or the run stops in it
 abbrev Ends : Setting → List (List ℕ) → Plain → Type 0
@@ -101,7 +100,7 @@ proof_stops bytes at goal p groups v d a some = by (tree_ends (setting_of bytes 
   where
     by : IsComplete bytes p.plain ⊎ Stops bytes groups (steps_of p.plain) → run bytes groups (spelled bytes p.plain) ≡ Err Incomplete
     by (inl done) = absurd (false≢true (sym (none_unknown bytes (steps_of p.plain) done) ∙ some))
-    by (inr stops) = ap (run_from bytes groups [] 1) (sym (append-nil (spelled bytes p.plain))) ∙ stops [] 1 []
+    by (inr stops) = ap (λ r. after r (λ q. Ok q.stack)) (ap (run_from bytes groups start) (sym (append-nil (spelled bytes p.plain))) ∙ stops start [])
 
 -- where the theorem's text is what is written for it
 pub written_incomplete : (bytes : List ℕ) (at : ℕ) (p : Proof) → at < length (labels_of bytes) → IsValid bytes at (statement_of bytes at) p → IsSettled bytes p.plain → IsApart bytes (distinct_at bytes at) p.plain

@@ -4,6 +4,9 @@ mod Popped
 mod Assertion
 pub mod Runs
 pub mod Spelled
+pub mod Shared
+pub mod Labelled
+pub mod Mandatory
 pub mod Accepted
 pub mod NoWork
 pub mod Incomplete

@@ -23,18 +23,19 @@ use Rattle.mm_plain.proofs.Keys.{is_among, keys_among}
 use Rattle.mm_plain.proofs.Equations.{by_trees, steps_of-unknown, steps_of-known, target_of-known}
 use Rattle.mm_plain.proofs.Kept.{kids-sound}
 use Rattle.mm_plain.proofs.Read.{label_of-known, label_of-unknown, sigma_of-known, is_pending-known}
-use Rattle.mm_stack.specs.Running.{run_from, run_step, run, after}
+use Rattle.mm_stated.specs.Stated.{Stated}
+use Rattle.mm_proof.specs.declared.step.ProofStep.{ProofStep}
+use Rattle.mm_proof.specs.declared.step.StepKind.TheVariants.{Hyp, Apply}
+use Rattle.mm_stack.specs.Running.{Progress, start, run_from, run_step, run, after}
 use Rattle.mm_stack.specs.Running as machine
-use Rattle.mm_stack.specs.declared.step.Step.{Step}
-use Rattle.mm_stack.specs.declared.step.Step.TheVariants.{Hyp, Apply}
 use Rattle.mm_sound.specs.Apart.{AreParted, KeepsPairs, IsApart, pairs_by}
-use Rattle.mm_sound.specs.Complete.{IsDone, IsComplete, step_for, spelled}
+use Rattle.mm_sound.specs.Complete.{IsDone, IsComplete, kind_for, step_for, spelled}
 use Rattle.mm_sound.specs.Proves.{Proves}
 use Rattle.mm_sound.specs.Numbers.{numbers}
 use Rattle.mm_sound.proofs.Strings.{meaning, numbers-statement, numbers-applied, length-numbers, itself, no_value, none_there, unchanged, same_string}
 use Rattle.mm_sound.proofs.Popped.{entry_for}
 use Rattle.mm_sound.proofs.Pairs.{none_violated}
-use Rattle.mm_sound.proofs.Assertion.{applies}
+use Rattle.mm_sound.proofs.Assertion.{concludes, applies}
 
 each-left : (P : Plain → Type 0) (xs ys : List Plain) → Each P (xs ++ ys) → Each P xs
 each-left P [] ys a = tt
@@ -54,41 +55,58 @@ split P t l s kids e =
     let f = subst (Each P) (steps_of-known t l s kids) e in
     (each-kids P kids (each-left P (flat_map steps_of kids) (known t l s kids ∷ []) f), (each-right P (flat_map steps_of kids) (known t l s kids ∷ []) f).0)
 
--- the machine goes on with the target of a tree on its stack
-abbrev pub Runs : List ℕ → List (List ℕ) → Plain → Type 0
-Runs bytes groups x = (stack : List (List ℕ)) (k : ℕ) (rest : List Step) → (next : ℕ) × (run_from bytes groups stack k (spelled bytes x ++ rest) ≡ run_from bytes groups (stack ++ numbers (target_of x) ∷ []) next rest)
+-- the entry of a tree
+abbrev pub entry_of : Plain → List ℕ
+entry_of x = numbers (target_of x)
+
+-- where the machine stands after the steps of a tree: its target is on the stack, and each step has that of its own
+abbrev pub after_tree : Progress → Plain → Progress
+after_tree p x = record { stack = p.stack ++ entry_of x ∷ []; results = p.results ++ map entry_of (steps_of x) }
 
 -- the same of several trees
+abbrev pub after_trees : Progress → List Plain → Progress
+after_trees p xs = record { stack = p.stack ++ map entry_of xs; results = p.results ++ map entry_of (flat_map steps_of xs) }
+
+-- the machine goes on with the target of a tree on its stack
+abbrev pub Runs : List ℕ → List (List ℕ) → Plain → Type 0
+Runs bytes groups x = (p : Progress) (rest : List ProofStep) → run_from bytes groups p (spelled bytes x ++ rest) ≡ run_from bytes groups (after_tree p x) rest
+
 abbrev pub RunAll : List ℕ → List (List ℕ) → List Plain → Type 0
-RunAll bytes groups xs = (stack : List (List ℕ)) (k : ℕ) (rest : List Step)
-    → (next : ℕ) × (run_from bytes groups stack k (map (step_for bytes) (map label_of (flat_map steps_of xs)) ++ rest) ≡ run_from bytes groups (stack ++ map (λ x. numbers (target_of x)) xs) next rest)
+RunAll bytes groups xs = (p : Progress) (rest : List ProofStep)
+    → run_from bytes groups p (map (step_for bytes) (map label_of (flat_map steps_of xs)) ++ rest) ≡ run_from bytes groups (after_trees p xs) rest
 
 pub spelled-append : (bytes : List ℕ) (xs ys : List Plain) → map (step_for bytes) (map label_of (xs ++ ys)) ≡ map (step_for bytes) (map label_of xs) ++ map (step_for bytes) (map label_of ys)
 spelled-append bytes xs ys = ap (map (step_for bytes)) (map-append label_of xs ys) ∙ map-append (step_for bytes) (map label_of xs) (map label_of ys)
 
+-- a progress by its parts
+abbrev pub at : List (List ℕ) → List (List ℕ) → Progress
+at stack results = record { stack = stack; results = results }
+
+after_more : (p : Progress) (x : Plain) (xs : List Plain) → after_trees (after_tree p x) xs ≡ after_trees p (x ∷ xs)
+after_more p x xs =
+    ap (λ s. at s ((p.results ++ map entry_of (steps_of x)) ++ map entry_of (flat_map steps_of xs))) (append_assoc p.stack (entry_of x ∷ []) (map entry_of xs))
+    ∙ ap (at (p.stack ++ map entry_of (x ∷ xs))) (append_assoc p.results (map entry_of (steps_of x)) (map entry_of (flat_map steps_of xs))
+    ∙ ap (λ ys. p.results ++ ys) (sym (map-append entry_of (steps_of x) (flat_map steps_of xs)) ∙ ap (map entry_of) (sym (flat_map-cons steps_of x xs))))
+
 all_run : (bytes : List ℕ) (groups : List (List ℕ)) (xs : List Plain) → Each (Runs bytes groups) xs → RunAll bytes groups xs
-all_run bytes groups [] e stack k rest = (k, ap (λ s. run_from bytes groups s k rest) (sym (append-nil stack)))
-all_run bytes groups (x ∷ xs) e stack k rest =
-    let more : List Step = map (step_for bytes) (map label_of (flat_map steps_of xs)) in
-    let first = e.0 stack k (more ++ rest) in
-    let later = all_run bytes groups xs e.1 (stack ++ numbers (target_of x) ∷ []) first.0 rest in (
-      later.0,
-      ap (λ ys. run_from bytes groups stack k (map (step_for bytes) (map label_of ys) ++ rest)) (flat_map-cons steps_of x xs)
-          ∙ ap (λ ss. run_from bytes groups stack k (ss ++ rest)) (spelled-append bytes (steps_of x) (flat_map steps_of xs))
-          ∙ ap (run_from bytes groups stack k) (append_assoc (spelled bytes x) more rest)
-          ∙ first.1
-          ∙ later.1
-          ∙ ap (λ s. run_from bytes groups s later.0 rest) (append_assoc stack (numbers (target_of x) ∷ []) (map (λ y. numbers (target_of y)) xs)),
-    )
+all_run bytes groups [] e p rest = ap (λ q. run_from bytes groups q rest) (ap (λ s. at s p.results) (sym (append-nil p.stack)) ∙ ap (at (p.stack ++ [])) (sym (append-nil p.results)))
+all_run bytes groups (x ∷ xs) e p rest =
+    let more : List ProofStep = map (step_for bytes) (map label_of (flat_map steps_of xs)) in
+    ap (λ ys. run_from bytes groups p (map (step_for bytes) (map label_of ys) ++ rest)) (flat_map-cons steps_of x xs)
+    ∙ ap (λ ss. run_from bytes groups p (ss ++ rest)) (spelled-append bytes (steps_of x) (flat_map steps_of xs))
+    ∙ ap (run_from bytes groups p) (append_assoc (spelled bytes x) more rest)
+    ∙ e.0 p (more ++ rest)
+    ∙ all_run bytes groups xs e.1 (after_tree p x) rest
+    ∙ ap (λ q. run_from bytes groups q rest) (after_more p x xs)
 
 -- the last step of a tree
-last_step : (bytes : List ℕ) (groups : List (List ℕ)) (stack next : List (List ℕ)) (k : ℕ) (s : Step) (rest : List Step) → run_step bytes groups stack k s ≡ Ok next
-    → run_from bytes groups stack k (s ∷ rest) ≡ run_from bytes groups next (k + 1) rest
+last_step : (bytes : List ℕ) (groups : List (List ℕ)) (p next : Progress) (s : ProofStep) (rest : List ProofStep) → run_step bytes groups p s.kind ≡ Ok next
+    → run_from bytes groups p (s ∷ rest) ≡ run_from bytes groups next rest
 unfolding run_from
-last_step bytes groups stack next k s rest e = ap (λ r. after r (λ n. run_from bytes groups n (k + 1) rest)) e
+last_step bytes groups p next s rest e = ap (λ r. after r (λ n. run_from bytes groups n rest)) e
 
 -- a step of a valid and complete proof that keeps its pairs
-record IsStep (c : Setting) (groups : List (List ℕ)) (t : List WSym) (l : ℕ) (s : Pairs) (kids : List Plain) : Type 0 where
+pub record IsStep (c : Setting) (groups : List (List ℕ)) (t : List WSym) (l : ℕ) (s : Pairs) (kids : List Plain) : Type 0 where
   is : IsInstance c t l s (map target_of kids)
   source : t ≡ applied s (statement_of c.bytes l)
   pairs : All (λ p. AreParted groups (string.value_of s (Var p.0)) (string.value_of s (Var p.1))) (stated_at c.bytes l).pairs
@@ -103,7 +121,7 @@ kept_pairs bytes groups t l s kids h =
     subst (λ u. All (λ p. AreParted groups (string.value_of u (Var p.0)) (string.value_of u (Var p.1))) (stated_at bytes l).pairs) (sigma_of-known t l s kids)
     (subst (λ o. All (λ p. AreParted groups (string.value_of (sigma_of (known t l s kids)) (Var p.0)) (string.value_of (sigma_of (known t l s kids)) (Var p.1))) (pairs_by bytes o)) (label_of-known t l s kids) h)
 
-is_step : (c : Setting) (groups : List (List ℕ)) (t : List WSym) (l : ℕ) (s : Pairs) (kids : List Plain) → IsInstance c t l s (map target_of kids) → IsDone c.bytes (known t l s kids)
+pub is_step : (c : Setting) (groups : List (List ℕ)) (t : List WSym) (l : ℕ) (s : Pairs) (kids : List Plain) → IsInstance c t l s (map target_of kids) → IsDone c.bytes (known t l s kids)
     → KeepsPairs c.bytes groups (known t l s kids) → IsStep c groups t l s kids
 is_step c groups t l s kids is d h = record { is = is; source = settled c.bytes t l s kids d; pairs = kept_pairs c.bytes groups t l s kids h }
 
@@ -155,20 +173,25 @@ module _ (c : Setting) (groups : List (List ℕ)) (t : List WSym) (l : ℕ) (s :
       among_none (Var n) = refl
       among_none (Work n) = refl
 
-  done_by : (b : Bool) → is_hypothesis (stated_at c.bytes l).kind ≡ b → (stack : List (List ℕ)) (k : ℕ)
-      → run_step c.bytes groups (stack ++ map (λ x. numbers (target_of x)) kids) k (step_for c.bytes (Some l)) ≡ Ok (stack ++ numbers t ∷ [])
+  pub done_by : (b : Bool) → is_hypothesis (stated_at c.bytes l).kind ≡ b → (stack results : List (List ℕ))
+      → run_step c.bytes groups (at (stack ++ map entry_of kids) results) (kind_for c.bytes (Some l)) ≡ Ok (at (stack ++ numbers t ∷ []) (results ++ numbers t ∷ []))
   unfolding premises_by variables_by
-  done_by true e stack k =
-      ap (λ b. run_step c.bytes groups (stack ++ map (λ x. numbers (target_of x)) kids) k (if b then Hyp (record { 0 = l }) else Apply (record { 0 = l }))) e
-      ∙ ap (λ es. Ok ((stack ++ es) ++ (stated_at c.bytes l).symbols ∷ [])) (entries true e)
-      ∙ ap (λ xs. Ok (xs ++ (stated_at c.bytes l).symbols ∷ [])) (append-nil stack)
-      ∙ ap (λ x. Ok (stack ++ x ∷ [])) (sym (ap numbers (step.source ∙ unchanged s (no_keys e) (statement_of c.bytes l)) ∙ numbers-statement c.bytes l))
-  done_by false e stack k =
+  done_by true e stack results =
+      ap (λ b. run_step c.bytes groups (at (stack ++ map entry_of kids) results) (if b then Hyp (record { 0 = l }) else Apply (record { 0 = l }))) e
+      ∙ ap (λ es. Ok (at ((stack ++ es) ++ (stated_at c.bytes l).symbols ∷ []) (results ++ (stated_at c.bytes l).symbols ∷ []))) (entries true e)
+      ∙ ap (λ xs. Ok (at (xs ++ (stated_at c.bytes l).symbols ∷ []) (results ++ (stated_at c.bytes l).symbols ∷ []))) (append-nil stack)
+      ∙ ap (λ x. Ok (at (stack ++ x ∷ []) (results ++ x ∷ []))) (sym (ap numbers (step.source ∙ unchanged s (no_keys e) (statement_of c.bytes l)) ∙ numbers-statement c.bytes l))
+  done_by false e stack results =
+      let a : Stated = stated_at c.bytes l in
       let short : length (entry_for c.bytes s l) ≤ machine.most_symbols = omega (arith, ap length same_target, length-numbers t, step.is.target.short) in
-      ap (λ b. run_step c.bytes groups (stack ++ map (λ x. numbers (target_of x)) kids) k (if b then Hyp (record { 0 = l }) else Apply (record { 0 = l }))) e
-      ∙ ap (λ es. machine.applied c.bytes groups (stated_at c.bytes l) (stack ++ es) k) (entries false e ∙ entries_are c.bytes s (stated_at c.bytes l).mandatory)
-      ∙ applies c.bytes s constant groups l stack k (λ n h. itself c.bytes s n (free_of false e n h)) (none_violated c s step.is.names.values constant groups k (stated_at c.bytes l).pairs step.pairs) short
-      ∙ ap (λ x. Ok (stack ++ x ∷ [])) (sym same_target)
+      let free : (n : ℕ) → list_any (λ v. n == v) (variables_of (statements_of c.bytes) a.mandatory) ≡ false → meaning c.bytes s n ≡ n ∷ [] = λ n h. itself c.bytes s n (free_of false e n h) in
+      let es : List (List ℕ) = map (entry_for c.bytes s) a.mandatory in
+      ap (λ b. run_step c.bytes groups (at (stack ++ map entry_of kids) results) (if b then Hyp (record { 0 = l }) else Apply (record { 0 = l }))) e
+      ∙ ap (λ xs. machine.applying c.bytes groups a (at (stack ++ xs) results)) (entries false e ∙ entries_are c.bytes s a.mandatory)
+      ∙ ap (λ r. after r (λ q. Ok (at q (results ++ machine.conclusion_at c.bytes a (stack ++ es) ∷ []))))
+      (applies c.bytes s constant groups l (stack) (length results + 1) free (none_violated c s step.is.names.values constant groups (length results + 1) a.pairs step.pairs) short)
+      ∙ ap (λ x. Ok (at (stack ++ entry_for c.bytes s l ∷ []) (results ++ x ∷ []))) (concludes c.bytes s constant l stack free)
+      ∙ ap (λ x. Ok (at (stack ++ x ∷ []) (results ++ x ∷ []))) (sym same_target)
 
   spells : spelled c.bytes (known t l s kids) ≡ map (step_for c.bytes) (map label_of (flat_map steps_of kids)) ++ step_for c.bytes (Some l) ∷ []
   spells =
@@ -176,18 +199,22 @@ module _ (c : Setting) (groups : List (List ℕ)) (t : List WSym) (l : ℕ) (s :
       ∙ spelled-append c.bytes (flat_map steps_of kids) (known t l s kids ∷ [])
       ∙ ap (λ o. map (step_for c.bytes) (map label_of (flat_map steps_of kids)) ++ step_for c.bytes o ∷ []) (label_of-known t l s kids)
 
+  after_root : (p : Progress) → at (p.stack ++ numbers t ∷ []) ((p.results ++ map entry_of (flat_map steps_of kids)) ++ numbers t ∷ []) ≡ after_tree p (known t l s kids)
+  after_root p =
+      ap (at (p.stack ++ numbers t ∷ [])) (append_assoc p.results (map entry_of (flat_map steps_of kids)) (numbers t ∷ []))
+      ∙ ap (λ u. at (p.stack ++ numbers u ∷ []) (p.results ++ (map entry_of (flat_map steps_of kids) ++ numbers u ∷ []))) (sym (target_of-known t l s kids))
+      ∙ ap (λ ys. at (p.stack ++ entry_of (known t l s kids) ∷ []) (p.results ++ ys)) (sym (map-append entry_of (flat_map steps_of kids) (known t l s kids ∷ [])) ∙ ap (map entry_of) (sym (steps_of-known t l s kids)))
+
   known_runs : Each (Runs c.bytes groups) kids → Runs c.bytes groups (known t l s kids)
-  known_runs e stack k rest =
-      let more : List Step = map (step_for c.bytes) (map label_of (flat_map steps_of kids)) in
-      let last : Step = step_for c.bytes (Some l) in
-      let first = all_run c.bytes groups kids e stack k (last ∷ rest) in (
-        first.0 + 1,
-        ap (λ ss. run_from c.bytes groups stack k (ss ++ rest)) spells
-            ∙ ap (run_from c.bytes groups stack k) (append_assoc more (last ∷ []) rest)
-            ∙ first.1
-            ∙ last_step c.bytes groups (stack ++ map (λ x. numbers (target_of x)) kids) (stack ++ numbers t ∷ []) first.0 last rest (done_by (is_hypothesis (stated_at c.bytes l).kind) refl stack first.0)
-            ∙ ap (λ u. run_from c.bytes groups (stack ++ numbers u ∷ []) (first.0 + 1) rest) (sym (target_of-known t l s kids)),
-      )
+  known_runs e p rest =
+      let more : List ProofStep = map (step_for c.bytes) (map label_of (flat_map steps_of kids)) in
+      let last : ProofStep = step_for c.bytes (Some l) in
+      ap (λ ss. run_from c.bytes groups p (ss ++ rest)) spells
+      ∙ ap (run_from c.bytes groups p) (append_assoc more (last ∷ []) rest)
+      ∙ all_run c.bytes groups kids e p (last ∷ rest)
+      ∙ last_step c.bytes groups (after_trees p kids) (at (p.stack ++ numbers t ∷ []) ((p.results ++ map entry_of (flat_map steps_of kids)) ++ numbers t ∷ [])) last rest
+      (done_by (is_hypothesis (stated_at c.bytes l).kind) refl p.stack (p.results ++ map entry_of (flat_map steps_of kids)))
+      ∙ ap (λ q. run_from c.bytes groups q rest) (after_root p)
 
 each_by : (A B C R : Plain → Type 0) (xs : List Plain) → Each (λ x. A x → B x → C x → R x) xs → Each A xs → Each B xs → Each C xs → Each R xs
 each_by A B C R [] f a b c = tt
@@ -213,9 +240,9 @@ tree_runs c groups = by_trees (λ x. IsSound c x → IsComplete c.bytes x → Is
 pub proof_runs : (bytes : List ℕ) (at : ℕ) (goal : List WSym) (p : Proof) (groups : List (List ℕ)) → IsValid bytes at goal p → IsComplete bytes p.plain → IsApart bytes groups p.plain
     → run bytes groups (spelled bytes p.plain) ≡ Ok (numbers goal ∷ [])
 unfolding run_from
-proof_runs bytes at goal p groups v d a =
-    let r = tree_runs (setting_of bytes at p) groups p.plain v.steps d a [] 1 [] in
-    ap (run_from bytes groups [] 1) (sym (append-nil (spelled bytes p.plain))) ∙ r.1 ∙ ap (λ g. Ok (numbers g ∷ [])) v.goal_is
+proof_runs bytes id goal p groups v d a =
+    ap (λ r. after r (λ q. Ok q.stack)) (ap (run_from bytes groups start) (sym (append-nil (spelled bytes p.plain))) ∙ tree_runs (setting_of bytes id p) groups p.plain v.steps d a start [])
+    ∙ ap (λ g. Ok (numbers g ∷ [])) v.goal_is
 
 pub theorem_runs : (bytes : List ℕ) (at : ℕ) (p : Proof) → Proves bytes at p → run bytes (distinct_at bytes at) (spelled bytes p.plain) ≡ Ok ((stated_at bytes at).symbols ∷ [])
-theorem_runs bytes at p v = proof_runs bytes at (statement_of bytes at) p (distinct_at bytes at) v.valid v.complete v.apart ∙ ap (λ x. Ok (x ∷ [])) (numbers-statement bytes at)
+theorem_runs bytes id p v = proof_runs bytes id (statement_of bytes id) p (distinct_at bytes id) v.valid v.complete v.apart ∙ ap (λ x. Ok (x ∷ [])) (numbers-statement bytes id)

@@ -1,5 +1,5 @@
 -- The steps that a written proof spells.
-use Rattle.std.proofs.Common.{◌≡◌, ◌<◌, ◌+◌, ℕ, Bool, true, false, nat_lt, ◌==◌, List, [], ◌∷◌, map, length, Option, None, Some, Ok, Err, slice_range, refl, sym, ap, ◌∙◌, subst, arith, if◌then◌else◌, inl, inr}
+use Rattle.std.proofs.Common.{◌≡◌, ◌<◌, ◌+◌, ℕ, Bool, true, false, nat_lt, ◌==◌, List, [], ◌∷◌, map, drop, length, Option, None, Some, Ok, Err, slice_range, refl, sym, ap, ◌∙◌, subst, arith, if◌then◌else◌, inl, inr}
 use Rattle.std.proofs.lemmas.Bool.{true≢false, false≢true, cases_lt}
 use Rattle.std.proofs.lemmas.List.{length-map}
 use Rattle.std.proofs.lemmas.Slice.Eq.{bytes_eq-Decides}
@@ -21,14 +21,19 @@ use Rattle.mm_plain.specs.Valid.{Setting, setting_of, IsGood, IsSound, IsValid}
 use Rattle.mm_plain.proofs.Equations.{by_trees, length-steps_of, size_of-pos}
 use Rattle.mm_plain.proofs.Kept.{known-good}
 use Rattle.mm_plain.proofs.Read.{label_of-known, label_of-unknown}
-use Rattle.mm_stack.specs.Decoding.{after, step_by, labelled, step_of, steps_from, unless_empty, proof_of, decoded}
-use Rattle.mm_stack.specs.declared.outcome.ProofFault.TheVariants.{HypothesisNotActive, NotEarlier}
-use Rattle.mm_stack.specs.declared.step.Step.{Step}
-use Rattle.mm_stack.specs.declared.step.Step.TheVariants.{Hyp, Apply, Unknown}
+use Rattle.mm_proof.specs.Decoding.{steps_from, normal, compressed, begins_list, proof_of, decoded}
+use Rattle.mm_proof.specs.Decoding as text
+use Rattle.mm_proof.specs.Faults.{after}
+use Rattle.mm_proof.specs.Labels.{step_by, labelled, named_of, step_of}
+use Rattle.mm_proof.specs.Reading.{unless_empty}
+use Rattle.mm_proof.specs.Steps.{untagged}
+use Rattle.mm_proof.specs.declared.fault.ProofFault.TheVariants.{HypothesisNotActive, NotEarlier}
+use Rattle.mm_proof.specs.declared.step.ProofStep.{ProofStep}
+use Rattle.mm_proof.specs.declared.step.StepKind.TheVariants.{Hyp, Apply, Unknown}
 use Rattle.mm_plain.specs.Labels.{label_at}
 use Rattle.mm_plain.proofs.Forms.{no_other}
 use Rattle.mm_plain.proofs.Labels.{has_label}
-use Rattle.mm_sound.specs.Complete.{labels_in, step_for, spelled}
+use Rattle.mm_sound.specs.Complete.{labels_in, kind_for, step_for, spelled}
 use Rattle.mm_sound.specs.Written.{texts_in, word_for, written}
 
 -- a step with this label may stand in the proof of a theorem
@@ -96,8 +101,8 @@ not_mark : (text : List ℕ) → is_bad_label text ≡ false → bytes_eq text (
 not_mark text fit = not_mark_by text (bytes_eq text (63 ∷ [])) refl fit
 
 -- what is written for a step spells it
-spells_step : (bytes : List ℕ) (at k : ℕ) (o : Option ℕ) → at < length (labels_of bytes) → MayStand bytes at o → step_of bytes at k (word_for bytes o) ≡ Ok (step_for bytes o)
-unfolding step_of
+spells_step : (bytes : List ℕ) (at k : ℕ) (o : Option ℕ) → at < length (labels_of bytes) → MayStand bytes at o → step_of bytes at k (word_for bytes o) ≡ Ok (kind_for bytes o)
+unfolding step_of named_of
 spells_step bytes at k None own h = refl
 spells_step bytes at k (Some l) own h =
     let named = has_label bytes l (own_label bytes at l own h) in
@@ -113,9 +118,29 @@ tail : List (List ℕ) → List (List ℕ)
 tail [] = []
 tail (x ∷ xs) = xs
 
-unfoldable pub head : List (List ℕ) → List ℕ
+unfoldable head : List (List ℕ) → List ℕ
 head [] = []
 head (x ∷ xs) = x
+
+-- what is written for a proof is no compressed proof
+bad_bracket : is_bad_label (40 ∷ []) ≡ true
+unfolding is_bad_label
+bad_bracket = refl
+
+not_bracket_by : (text : List ℕ) (b : Bool) → bytes_eq text (40 ∷ []) ≡ b → is_bad_label text ≡ false → b ≡ false
+not_bracket_by text true e fit = absurd (true≢false (sym bad_bracket ∙ sym (ap is_bad_label ((bytes_eq-Decides text (40 ∷ [])).0 e)) ∙ fit))
+not_bracket_by text false e fit = refl
+
+not_bracket : (bytes : List ℕ) (at : ℕ) (o : Option ℕ) → at < length (labels_of bytes) → MayStand bytes at o → bytes_eq (word_for bytes o) (40 ∷ []) ≡ false
+not_bracket bytes at None own h = refl
+not_bracket bytes at (Some l) own h = not_bracket_by (label_at bytes l) (bytes_eq (label_at bytes l) (40 ∷ [])) refl (has_label bytes l (own_label bytes at l own h)).fit
+
+first_word : (bytes : List ℕ) (at : ℕ) (proof : List ℕ) (ts : List Token) (os : List (Option ℕ)) → at < length (labels_of bytes) → ByRecursion (MayStand bytes at) os
+    → texts_of proof ts ≡ map (word_for bytes) os → begins_list proof ts ≡ false
+unfolding head
+first_word bytes at proof [] os own h e = refl
+first_word bytes at proof (t ∷ ts) [] own h e = absurd (omega (arith, ap length e))
+first_word bytes at proof (t ∷ ts) (o ∷ os) own h e = ap (λ text. bytes_eq text (40 ∷ [])) (ap head e) ∙ not_bracket bytes at o own h.0
 
 spells_tokens : (bytes : List ℕ) (at : ℕ) (proof : List ℕ) (k : ℕ) (ts : List Token) (os : List (Option ℕ)) → at < length (labels_of bytes) → ByRecursion (MayStand bytes at) os
     → texts_of proof ts ≡ map (word_for bytes) os → steps_from bytes at proof k ts ≡ Ok (map (step_for bytes) os)
@@ -124,19 +149,23 @@ spells_tokens bytes at proof k [] [] own h e = refl
 spells_tokens bytes at proof k [] (o ∷ os) own h e = absurd (omega (arith, ap length e))
 spells_tokens bytes at proof k (t ∷ ts) [] own h e = absurd (omega (arith, ap length e))
 spells_tokens bytes at proof k (t ∷ ts) (o ∷ os) own h e =
-    ap (λ r. after r (λ s. after (steps_from bytes at proof (k + 1) ts) (λ ss. Ok (s ∷ ss)))) (ap (step_of bytes at k) (ap head e) ∙ spells_step bytes at k o own h.0)
+    ap (λ r. after r (λ s. after (steps_from bytes at proof (k + 1) ts) (λ ss. Ok (untagged s ∷ ss)))) (ap (step_of bytes at k) (ap head e) ∙ spells_step bytes at k o own h.0)
     ∙ ap (λ r. after r (λ ss. Ok (step_for bytes o ∷ ss))) (spells_tokens bytes at proof (k + 1) ts os own h.1 (ap tail e))
 
-some_step : (ss : List Step) → 0 < length ss → unless_empty ss ≡ Ok ss
+some_step : (ss : List ProofStep) → 0 < length ss → unless_empty ss ≡ Ok ss
 some_step [] h = absurd (omega (arith, h))
 some_step (s ∷ ss) h = refl
 
 -- the steps of a valid proof that is written
 pub written_spells : (bytes : List ℕ) (at : ℕ) (goal : List WSym) (p : Proof) → at < length (labels_of bytes) → IsValid bytes at goal p → texts_in (proof_of bytes at) ≡ written bytes p.plain
     → decoded bytes at ≡ Ok (spelled bytes p.plain)
-unfolding decoded
+unfolding decoded text.spelled
 written_spells bytes at goal p own v e =
     let proof : List ℕ = proof_of bytes at in
+    let from : ℕ = (stated_at bytes at).from in
+    let tokens : List Token = tokens_in (pieces_of proof) in
+    let plain : begins_list proof tokens ≡ false = first_word bytes at proof tokens (labels_in p.plain) own (labels_stand (setting_of bytes at p) p.plain v.steps) e in
     let many : length (spelled bytes p.plain) ≡ size_of p.plain = length-map (labels_in p.plain) (step_for bytes) ∙ length-map (steps_of p.plain) label_of ∙ length-steps_of p.plain in
-    ap (λ r. after r unless_empty) (spells_tokens bytes at proof 1 (tokens_in (pieces_of proof)) (labels_in p.plain) own (labels_stand (setting_of bytes at p) p.plain v.steps) e)
+    ap (λ b. if b then compressed bytes at from proof (drop 1 tokens) else normal bytes at proof tokens) plain
+    ∙ ap (λ r. after r unless_empty) (spells_tokens bytes at proof 1 tokens (labels_in p.plain) own (labels_stand (setting_of bytes at p) p.plain v.steps) e)
     ∙ some_step (spelled bytes p.plain) (omega (arith, many, size_of-pos p.plain))

@@ -9,8 +9,10 @@ use Rattle.mm_subst.specs.Symbols.{has_work}
 use Rattle.mm_subst.specs.declared.symbol.WSym.{WSym}
 use Rattle.mm_plain.specs.Shape.{Each, steps_of, target_of}
 use Rattle.mm_plain.specs.Sources.{label_of, source_of, sigma_of, is_pending}
-use Rattle.mm_stack.specs.declared.step.Step.{Step}
-use Rattle.mm_stack.specs.declared.step.Step.TheVariants.{Hyp, Apply, Unknown}
+use Rattle.mm_proof.specs.Steps.{untagged}
+use Rattle.mm_proof.specs.declared.step.ProofStep.{ProofStep}
+use Rattle.mm_proof.specs.declared.step.StepKind.{StepKind}
+use Rattle.mm_proof.specs.declared.step.StepKind.TheVariants.{Hyp, Apply, Unknown}
 
 -- a step is known, and its target is its source
 pub record IsDone (bytes : List ℕ) (x : Plain) : Type 0 where
@@ -43,11 +45,14 @@ labels_in x = map label_of (steps_of x)
 abbrev pub has_unknown : Plain → Bool
 has_unknown x = list_any (λ o. is_none o) (labels_in x)
 
--- the step of the machine for a step with this label; `?` for an unknown step
-abbrev pub step_for : List ℕ → Option ℕ → Step
-step_for bytes None = Unknown
-step_for bytes (Some l) = if is_hypothesis (stated_at bytes l).kind then Hyp (record { 0 = l }) else Apply (record { 0 = l })
+-- what a step with this label stands for in a proof's text; `?` for an unknown step
+abbrev pub kind_for : List ℕ → Option ℕ → StepKind
+kind_for bytes None = Unknown
+kind_for bytes (Some l) = if is_hypothesis (stated_at bytes l).kind then Hyp (record { 0 = l }) else Apply (record { 0 = l })
+
+abbrev pub step_for : List ℕ → Option ℕ → ProofStep
+step_for bytes o = untagged (kind_for bytes o)
 
 -- the steps that a proof spells
-abbrev pub spelled : List ℕ → Plain → List Step
+abbrev pub spelled : List ℕ → Plain → List ProofStep
 spelled bytes x = map (step_for bytes) (labels_in x)

@@ -3,3 +3,4 @@ pub mod Complete
 pub mod Apart
 pub mod Proves
 pub mod Written
+pub mod LabelTrees

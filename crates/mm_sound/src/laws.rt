@@ -1,6 +1,6 @@
 //! What holds of valid and complete proofs.
 
-ghost use Rattle.std.specs.Prelude.{◌≡◌, ◌<◌, ℕ, true, false, List, [], ◌∷◌, Ok, Err, Result, length};
+ghost use Rattle.std.specs.Prelude.{◌≡◌, ◌<◌, ℕ, true, false, List, [], ◌∷◌, Some, Ok, Err, Result, length};
 ghost use Rattle.mm_scope.specs.Contents.{is_read, labels_of, stated_at, distinct_at};
 ghost use Rattle.mm_stated.specs.declared.statement.Kind.TheVariants.{Theorem};
 ghost use Rattle.mm_subst.specs.Statements.{statement_of};
@@ -8,14 +8,20 @@ ghost use Rattle.mm_subst.specs.declared.symbol.WSym.{WSym};
 ghost use Rattle.mm_plain.specs.Shape.{Each, Proof, steps_of};
 ghost use Rattle.mm_plain.specs.Valid.{IsValid};
 ghost use Rattle.mm_stack.specs.Running.{run};
-ghost use Rattle.mm_stack.specs.Decoding.{decoded, proof_of};
+ghost use Rattle.mm_proof.specs.Compacting.{compact};
+ghost use Rattle.mm_proof.specs.Decoding.{decoded, proof_of, spelled as read_text};
+ghost use Rattle.mm_proof.specs.Encoding.{kind_of, compressed_proof};
+ghost use Rattle.mm_proof.specs.Forests.{trees_in};
+ghost use Rattle.mm_proof.specs.Spelling.{steps_read};
+ghost use Rattle.mm_proof.specs.Standing.{MayProve};
 ghost use Rattle.mm_stack.specs.Accepting.{Accepts, verdict_by, verdict_of};
-ghost use Rattle.mm_stack.specs.declared.outcome.ProofFault.{ProofFault};
+ghost use Rattle.mm_proof.specs.declared.fault.ProofFault.{ProofFault};
 ghost use Rattle.mm_stack.specs.declared.outcome.Verdict.TheVariants.{Accepted, Incomplete};
-ghost use Rattle.mm_stack.specs.declared.step.Step.{Step};
+ghost use Rattle.mm_proof.specs.declared.step.ProofStep.{ProofStep};
 ghost use Rattle.mm_plain.specs.Labels.{label_at};
 ghost use Rattle.mm_sound.specs.Apart.{IsApart};
 ghost use Rattle.mm_sound.specs.Complete.{IsComplete, IsPlainStep, IsSettled, has_unknown, spelled};
+ghost use Rattle.mm_sound.specs.LabelTrees.{label_tree};
 ghost use Rattle.mm_sound.specs.Numbers.{numbers};
 ghost use Rattle.mm_sound.specs.Proves.{Proves};
 ghost use Rattle.mm_sound.specs.Written.{texts_in, written};
@@ -32,7 +38,7 @@ pub fn complete_proofs_run(bytes: &[u8])
 
 /// So where a theorem's text spells these steps, by whatever decoding, the theorem is accepted.
 pub fn complete_proofs_are_accepted(bytes: &[u8])
-    ensures by_any { (at : ℕ) (p : Proof) (read : Result (List Step) ProofFault) → Proves bytes.now at p → read ≡ Ok (spelled bytes.now p.plain) → verdict_by bytes.now at read ≡ Accepted }
+    ensures by_any { (at : ℕ) (p : Proof) (read : Result (List ProofStep) ProofFault) → Proves bytes.now at p → read ≡ Ok (spelled bytes.now p.plain) → verdict_by bytes.now at read ≡ Accepted }
     ensures by_text { (at : ℕ) (p : Proof) → Proves bytes.now at p → decoded bytes.now at ≡ Ok (spelled bytes.now p.plain) → verdict_of bytes.now at ≡ Accepted }
 {
     let _ = bytes;
@@ -67,6 +73,19 @@ pub fn complete_proofs_have_no_work_variables(bytes: &[u8])
 pub fn unknown_steps_leave_a_proof_incomplete(bytes: &[u8])
     ensures of_run { (at : ℕ) (goal : List WSym) (groups : List (List ℕ)) (p : Proof) → IsValid bytes.now at goal p → IsSettled bytes.now p.plain → IsApart bytes.now groups p.plain → has_unknown p.plain ≡ true → run bytes.now groups (spelled bytes.now p.plain) ≡ Err Incomplete }
     ensures of_text { (at : ℕ) (p : Proof) → at < length (labels_of bytes.now) → IsValid bytes.now at (statement_of bytes.now at) p → IsSettled bytes.now p.plain → IsApart bytes.now (distinct_at bytes.now at) p.plain → has_unknown p.plain ≡ true → texts_in (proof_of bytes.now at) ≡ written bytes.now p.plain → verdict_of bytes.now at ≡ Incomplete }
+{
+    let _ = bytes;
+}
+
+/// Written with back references, a valid and complete proof that keeps the pairs of variables runs to its statement too, and
+/// is accepted (Metamath book, Appendix B); so is its text in the compressed form, wherever it stands. The steps that any valid proof spells fold to its label tree, and each label there
+/// may stand in the theorem's proof.
+pub fn compressed_proofs_are_accepted(bytes: &[u8])
+    ensures runs { (at : ℕ) (p : Proof) → Proves bytes.now at p → run bytes.now (distinct_at bytes.now at) (steps_read (kind_of bytes.now) (compact (label_tree p.plain))) ≡ Ok ((stated_at bytes.now at).symbols ∷ []) }
+    ensures accepted { (at : ℕ) (p : Proof) → Proves bytes.now at p → verdict_by bytes.now at (Ok (steps_read (kind_of bytes.now) (compact (label_tree p.plain)))) ≡ Accepted }
+    ensures texts { (at from : ℕ) (p : Proof) → at < length (labels_of bytes.now) → Proves bytes.now at p → verdict_by bytes.now at (read_text bytes.now at from (compressed_proof bytes.now at (label_tree p.plain))) ≡ Accepted }
+    ensures folds { (at : ℕ) (goal : List WSym) (p : Proof) → at < length (labels_of bytes.now) → IsValid bytes.now at goal p → trees_in bytes.now (spelled bytes.now p.plain) ≡ Some (label_tree p.plain ∷ []) }
+    ensures stands { (at : ℕ) (goal : List WSym) (p : Proof) → at < length (labels_of bytes.now) → IsValid bytes.now at goal p → MayProve bytes.now at (label_tree p.plain) }
 {
     let _ = bytes;
 }

@@ -1,5 +1,5 @@
 -- A database after saves is the file, overlaid with the last text of each theorem.
-use Rattle.std.proofs.Common.{◌≡◌, ◌≢◌, ℕ, Bool, true, false, cond, List, [], ◌∷◌, ◌++◌, Option, None, Some, nat_eq, position, unwrap_or, refl, sym, ap, ◌∙◌, subst}
+use Rattle.std.proofs.Common.{◌≡◌, ◌≢◌, ℕ, Bool, true, false, cond, List, [], ◌∷◌, ◌++◌, Option, None, Some, Ok, nat_eq, position, unwrap_or, refl, sym, ap, ◌∙◌, subst}
 use Rattle.std.proofs.Math.Path.{fun_ext}
 use Rattle.std.proofs.lemmas.Bool.{true≢false, eqb-true, eq-eqb}
 use Rattle.std.proofs.lemmas.List.Sums.{fold-append}
@@ -8,14 +8,15 @@ use Rattle.std.specs.Str.{bytes_eq}
 use Rattle.mm_scope.specs.Contents.{is_read, find_label, stated_at}
 use Rattle.mm_stated.specs.declared.statement.Kind.TheVariants as kind
 use Rattle.mm_stack.specs.Accepting.{Accepts, verdict_by, verdict_of}
-use Rattle.mm_stack.specs.Decoding.{decoded, is_compressed}
+use Rattle.mm_proof.specs.Decoding.{decoded, spelled}
+use Rattle.mm_proof.specs.declared.step.ProofStep.{ProofStep}
 use Rattle.mm_splice.specs.Agreeing.{AgreesWith, JudgesAs, CanBeMade, CanAllBeMade, after_save, after_saves}
-use Rattle.mm_splice.specs.Judging.{spelled, is_compressed_text}
 use Rattle.mm_splice.specs.Keeping.{KeepsTheRest, proof_at}
 use Rattle.mm_splice.specs.Overlay.{Save, saved_with, last_text, with_proofs, overlay}
 use Rattle.mm_splice.proofs.Keeping.{keeps_the_rest}
 use Rattle.mm_splice.proofs.Overlaying.{own_proofs, outside_same}
-use Rattle.mm_splice.proofs.Verdicts.{spelled_stays, comes_stays}
+use Rattle.mm_splice.proofs.Places.{steps_free}
+use Rattle.mm_splice.proofs.Verdicts.{decoded_where, spelled_stays, comes_stays}
 
 none_some : {A : Type 0} (x : A) → None ≡ Some x → ⊥
 none_some x e = cc
@@ -52,7 +53,7 @@ agrees_at_first file read = record {
   descriptions_kept = λ j. refl;
   usage_kept = λ j. refl;
   change_kept = λ j. refl;
-  spelled_kept = λ j text. refl;
+  spelled_kept = λ j from text. refl;
   comes_kept = λ j steps. refl;
 }
 
@@ -120,7 +121,7 @@ module _ (file : List ℕ) (saved : ℕ → Option (List ℕ)) (now : List ℕ) 
     descriptions_kept = λ j. keeps.descriptions_kept j ∙ agrees.descriptions_kept j;
     usage_kept = λ j. keeps.usage_kept j ∙ agrees.usage_kept j;
     change_kept = λ j. keeps.change_kept j ∙ agrees.change_kept j;
-    spelled_kept = λ j text. spelled_stays now save.theorem save.text agrees.read keeps j text ∙ agrees.spelled_kept j text;
+    spelled_kept = λ j from text. spelled_stays now save.theorem save.text agrees.read keeps j from text ∙ agrees.spelled_kept j from text;
     comes_kept = λ j steps. comes_stays now save.theorem save.text agrees.read keeps j steps ∙ agrees.comes_kept j steps;
   }
 
@@ -164,27 +165,27 @@ agrees_after file saves read can = agrees_from file saves (λ _. None) file (agr
 -- and what is judged of proofs
 module _ (file : List ℕ) (saved : ℕ → Option (List ℕ)) (now : List ℕ) (read : is_read file ≡ true) (agrees : AgreesWith file saved now) where
   -- what a proof spells that is the same bytes
-  decodes : (j : ℕ) (text : List ℕ) → proof_at now j ≡ text → decoded now j ≡ spelled file j text
+  decodes : (j : ℕ) (text : List ℕ) → proof_at now j ≡ text → decoded now j ≡ spelled file j (stated_at now j).from text
   unfolding decoded
-  decodes j text e = ap (spelled now j) e ∙ agrees.spelled_kept j text
+  decodes j text e = ap (spelled now j (stated_at now j).from) e ∙ agrees.spelled_kept j (stated_at now j).from text
 
-  comes : (j : ℕ) (text : List ℕ) → proof_at now j ≡ text → verdict_of now j ≡ verdict_by file j (spelled file j text)
+  comes : (j : ℕ) (text : List ℕ) → proof_at now j ≡ text → verdict_of now j ≡ verdict_by file j (spelled file j (stated_at now j).from text)
   unfolding verdict_of
-  comes j text e = ap (verdict_by now j) (decodes j text e) ∙ agrees.comes_kept j (spelled file j text)
+  comes j text e = ap (verdict_by now j) (decodes j text e) ∙ agrees.comes_kept j (spelled file j (stated_at now j).from text)
 
-  file_comes : (j : ℕ) → verdict_by file j (spelled file j (proof_at file j)) ≡ verdict_of file j
-  unfolding verdict_of decoded
-  file_comes j = refl
-
-  file_decodes : (j : ℕ) → spelled file j (proof_at file j) ≡ decoded file j
+  steps_stay : (j : ℕ) (steps : List ProofStep) → saved j ≡ None → decoded file j ≡ Ok steps → decoded now j ≡ Ok steps
   unfolding decoded
-  file_decodes j = refl
+  steps_stay j steps none e =
+      decodes j (proof_at file j) (agrees.proofs_kept j none) ∙ steps_free file j (stated_at file j).from (stated_at now j).from (proof_at file j) steps e
 
-  compresses : (j : ℕ) → saved j ≡ None → is_compressed now j ≡ is_compressed file j
-  compresses j none = ap is_compressed_text (agrees.proofs_kept j none)
+  steps_come_back : (j : ℕ) (steps : List ProofStep) → saved j ≡ None → decoded now j ≡ Ok steps → decoded file j ≡ Ok steps
+  unfolding decoded
+  steps_come_back j steps none e =
+      steps_free file j (stated_at now j).from (stated_at file j).from (proof_at file j) steps (sym (decodes j (proof_at file j) (agrees.proofs_kept j none)) ∙ e)
 
-  same_comes : (j : ℕ) → saved j ≡ None → verdict_of now j ≡ verdict_of file j
-  same_comes j none = comes j (proof_at file j) (agrees.proofs_kept j none) ∙ file_comes j
+  same_comes : (j : ℕ) (steps : List ProofStep) → saved j ≡ None → decoded file j ≡ Ok steps → verdict_of now j ≡ verdict_of file j
+  unfolding verdict_of
+  same_comes j steps none e = ap (verdict_by now j) (steps_stay j steps none e) ∙ agrees.comes_kept j (Ok steps) ∙ ap (verdict_by file j) (sym e)
 
   found : (label : List ℕ) → find_label now label ≡ find_label file label
   found label = ap (position (bytes_eq label)) agrees.labels_kept
@@ -197,8 +198,7 @@ module _ (file : List ℕ) (saved : ℕ → Option (List ℕ)) (now : List ℕ) 
         read = agrees.read;
         found = found label ∙ a.found;
         theorem = agrees.kinds_kept a.id ∙ a.theorem;
-        normal = compresses a.id unsaved ∙ a.normal;
-        accepted = same_comes a.id unsaved ∙ a.accepted;
+        accepted = let d = decoded_where file a.id a.accepted in same_comes a.id d.0 unsaved d.1 ∙ a.accepted;
       }
 
   accepts_back : (label : List ℕ) (j : ℕ) → find_label file label ≡ Some j → saved j ≡ None → Accepts now label → Accepts file label
@@ -210,19 +210,18 @@ module _ (file : List ℕ) (saved : ℕ → Option (List ℕ)) (now : List ℕ) 
         read = read;
         found = here;
         theorem = sym (agrees.kinds_kept a.id) ∙ a.theorem;
-        normal = sym (compresses a.id unsaved) ∙ a.normal;
-        accepted = sym (same_comes a.id unsaved) ∙ a.accepted;
+        accepted = let d = decoded_where now a.id a.accepted in sym (same_comes a.id d.0 unsaved (steps_come_back a.id d.0 unsaved d.1)) ∙ a.accepted;
       }
 
   pub judges_as : JudgesAs file saved now
   judges_as = record {
-    decoded_kept = λ j none. decodes j (proof_at file j) (agrees.proofs_kept j none) ∙ file_decodes j;
-    compressed_kept = compresses;
-    verdicts_kept = same_comes;
+    decoded_kept = λ j none. decodes j (proof_at file j) (agrees.proofs_kept j none);
+    steps_kept = steps_stay;
+    verdicts_kept = λ j none. comes j (proof_at file j) (agrees.proofs_kept j none);
+    same_verdicts = same_comes;
     accepts_kept = accepts;
     accepts_back = accepts_back;
     decoded_saved = λ j text some. decodes j text (agrees.proofs_saved j text some);
-    compressed_saved = λ j text some. ap is_compressed_text (agrees.proofs_saved j text some);
     verdicts_saved = λ j text some. comes j text (agrees.proofs_saved j text some);
   }
 

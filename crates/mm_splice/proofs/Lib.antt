@@ -11,6 +11,7 @@ mod Finding
 mod Placing
 pub mod Keeping
 mod Memory
+mod Places
 mod Judging
 pub mod Verdicts
 mod Describing

@@ -1,18 +1,29 @@
 -- Replacing a theorem's proof changes no other verdict.
-use Rattle.std.proofs.Common.{◌≡◌, ◌≢◌, ℕ, true, not, List, Some, Result, position, nat_eq, refl, sym, ◌∙◌, ap}
+use Rattle.std.proofs.Common.{◌≡◌, ◌≢◌, ℕ, true, not, List, Some, Result, Ok, Err, position, nat_eq, refl, sym, ◌∙◌, ap}
 use Rattle.std.specs.List.{list_any}
 use Rattle.std.specs.Str.{bytes_eq}
 use Rattle.mm_scope.specs.Contents.{is_read, events_of, stated_at, find_label, is_variable_of}
 use Rattle.mm_scope.specs.Looks.{constants}
 use Rattle.mm_stack.specs.Accepting.{Accepts, verdict_by, verdict_of}
-use Rattle.mm_stack.specs.Decoding.{after, decoded, is_compressed, steps_in, unless_empty}
-use Rattle.mm_stack.specs.declared.outcome.ProofFault.{ProofFault}
-use Rattle.mm_stack.specs.declared.step.Step.{Step}
-use Rattle.mm_splice.specs.Judging.{JudgesTheRest, spelled, is_compressed_text}
+use Rattle.mm_proof.specs.Decoding.{decoded, spelled}
+use Rattle.mm_proof.specs.declared.fault.ProofFault.{ProofFault}
+use Rattle.mm_proof.specs.declared.step.ProofStep.{ProofStep}
+use Rattle.mm_stack.specs.declared.outcome.Verdict.TheVariants.{Accepted}
+use Rattle.mm_splice.specs.Judging.{JudgesTheRest}
 use Rattle.mm_splice.specs.Keeping.{KeepsTheRest, proof_at}
 use Rattle.mm_splice.specs.Splicing.{spliced, moved}
 use Rattle.mm_splice.proofs.Following.{constants_moved}
 use Rattle.mm_splice.proofs.Judging.{spells_same, comes_same}
+use Rattle.mm_splice.proofs.Places.{steps_free}
+
+-- an accepted proof spells steps
+pub decoded_where : (bytes : List ℕ) (j : ℕ) → verdict_of bytes j ≡ Accepted → (steps : List ProofStep) × (decoded bytes j ≡ Ok steps)
+unfolding verdict_of
+decoded_where bytes j e = by (decoded bytes j) refl e
+  where
+    by : (r : Result (List ProofStep) ProofFault) → decoded bytes j ≡ r → verdict_by bytes j r ≡ Accepted → (steps : List ProofStep) × (decoded bytes j ≡ Ok steps)
+    by (Ok steps) is h = (steps, is)
+    by (Err f) is h = cc
 
 module _ (bytes : List ℕ) (id : ℕ) (text : List ℕ) (read : is_read bytes ≡ true) (keeps : KeepsTheRest bytes id text) where
   abbrev new : List ℕ
@@ -22,30 +33,33 @@ module _ (bytes : List ℕ) (id : ℕ) (text : List ℕ) (read : is_read bytes �
   variables =
       ap (λ ns. λ s. not (list_any (λ n. nat_eq s n) ns)) (ap constants keeps.events_kept ∙ constants_moved (moved bytes id text) (events_of bytes))
 
-  spells : (j : ℕ) (proof : List ℕ) → steps_in new j proof ≡ steps_in bytes j proof
-  spells j proof = spells_same bytes new (moved bytes id text) keeps.stated_kept keeps.labels_kept keeps.hypotheses_kept keeps.distinct_kept variables j proof
+  -- a text spells the same, and the same comes of steps
+  pub spelled_stays : (j from : ℕ) (proof : List ℕ) → spelled new j from proof ≡ spelled bytes j from proof
+  spelled_stays j from proof = spells_same bytes new (moved bytes id text) keeps.stated_kept keeps.labels_kept keeps.hypotheses_kept keeps.distinct_kept variables j from proof
 
-  spelled_by : (j : ℕ) (old_proof new_proof : List ℕ) → new_proof ≡ old_proof → after (steps_in new j new_proof) unless_empty ≡ after (steps_in bytes j old_proof) unless_empty
-  spelled_by j old_proof new_proof e = ap (λ p. after (steps_in new j p) unless_empty) e ∙ ap (λ r. after r unless_empty) (spells j old_proof)
-
-  -- a text spells the same steps, and the same comes of steps
-  pub spelled_stays : (j : ℕ) (proof : List ℕ) → spelled new j proof ≡ spelled bytes j proof
-  spelled_stays j proof = spelled_by j proof proof refl
-
-  pub comes_stays : (j : ℕ) (steps : Result (List Step) ProofFault) → verdict_by new j steps ≡ verdict_by bytes j steps
+  pub comes_stays : (j : ℕ) (steps : Result (List ProofStep) ProofFault) → verdict_by new j steps ≡ verdict_by bytes j steps
   comes_stays j steps = comes_same bytes new (moved bytes id text) keeps.stated_kept keeps.labels_kept keeps.hypotheses_kept keeps.distinct_kept variables j steps
 
-  decodes : (j : ℕ) → j ≢ id → decoded new j ≡ decoded bytes j
+  spelled_by : (j : ℕ) (proof : List ℕ) → proof_at new j ≡ proof → decoded new j ≡ spelled bytes j (stated_at new j).from proof
   unfolding decoded
-  decodes j ne = spelled_by j (proof_at bytes j) (proof_at new j) (keeps.proofs_kept j ne)
+  spelled_by j proof e = ap (spelled new j (stated_at new j).from) e ∙ spelled_stays j (stated_at new j).from proof
 
-  compresses : (j : ℕ) → j ≢ id → is_compressed new j ≡ is_compressed bytes j
-  compresses j ne = ap is_compressed_text (keeps.proofs_kept j ne)
-
-  verdicts : (j : ℕ) → j ≢ id → verdict_of new j ≡ verdict_of bytes j
+  comes_by : (j : ℕ) (proof : List ℕ) → proof_at new j ≡ proof → verdict_of new j ≡ verdict_by bytes j (spelled bytes j (stated_at new j).from proof)
   unfolding verdict_of
-  verdicts j ne =
-      ap (verdict_by new j) (decodes j ne) ∙ comes_stays j (decoded bytes j)
+  comes_by j proof e = ap (verdict_by new j) (spelled_by j proof e) ∙ comes_stays j (spelled bytes j (stated_at new j).from proof)
+
+  steps_stay : (j : ℕ) (steps : List ProofStep) → j ≢ id → decoded bytes j ≡ Ok steps → decoded new j ≡ Ok steps
+  unfolding decoded
+  steps_stay j steps ne e = spelled_by j (proof_at bytes j) (keeps.proofs_kept j ne) ∙ steps_free bytes j (stated_at bytes j).from (stated_at new j).from (proof_at bytes j) steps e
+
+  steps_come_back : (j : ℕ) (steps : List ProofStep) → j ≢ id → decoded new j ≡ Ok steps → decoded bytes j ≡ Ok steps
+  unfolding decoded
+  steps_come_back j steps ne e =
+      steps_free bytes j (stated_at new j).from (stated_at bytes j).from (proof_at bytes j) steps (sym (spelled_by j (proof_at bytes j) (keeps.proofs_kept j ne)) ∙ e)
+
+  same_verdicts : (j : ℕ) (steps : List ProofStep) → j ≢ id → decoded bytes j ≡ Ok steps → verdict_of new j ≡ verdict_of bytes j
+  unfolding verdict_of
+  same_verdicts j steps ne e = ap (verdict_by new j) (steps_stay j steps ne e) ∙ comes_stays j (Ok steps) ∙ ap (verdict_by bytes j) (sym e)
 
   found : (label : List ℕ) → find_label new label ≡ find_label bytes label
   found label = ap (position (bytes_eq label)) keeps.labels_kept
@@ -61,8 +75,7 @@ module _ (bytes : List ℕ) (id : ℕ) (text : List ℕ) (read : is_read bytes �
         read = keeps.read;
         found = found label ∙ a.found;
         theorem = kinds a.id ∙ a.theorem;
-        normal = compresses a.id other ∙ a.normal;
-        accepted = verdicts a.id other ∙ a.accepted;
+        accepted = let d = decoded_where bytes a.id a.accepted in same_verdicts a.id d.0 other d.1 ∙ a.accepted;
       }
 
   accepted : (label : List ℕ) → find_label bytes label ≢ Some id → Accepts new label → Accepts bytes label
@@ -74,27 +87,20 @@ module _ (bytes : List ℕ) (id : ℕ) (text : List ℕ) (read : is_read bytes �
         read = read;
         found = there;
         theorem = sym (kinds a.id) ∙ a.theorem;
-        normal = sym (compresses a.id other) ∙ a.normal;
-        accepted = sym (verdicts a.id other) ∙ a.accepted;
+        accepted = let d = decoded_where new a.id a.accepted in sym (same_verdicts a.id d.0 other (steps_come_back a.id d.0 other d.1)) ∙ a.accepted;
       }
 
-  own : decoded new id ≡ spelled bytes id text
-  unfolding decoded
-  own = spelled_by id text (proof_at new id) keeps.proof_is
-
-  own_comes : verdict_of new id ≡ verdict_by bytes id (spelled bytes id text)
-  unfolding verdict_of
-  own_comes =
-      ap (verdict_by new id) own ∙ comes_stays id (spelled bytes id text)
+  own_spelled : spelled bytes id (stated_at new id).from text ≡ spelled bytes id (stated_at bytes id).from text
+  own_spelled = ap (λ from. spelled bytes id from text) keeps.from_kept
 
   pub judges_the_rest : JudgesTheRest bytes id text
   judges_the_rest = record {
-    decoded_kept = decodes;
-    compressed_kept = compresses;
-    verdicts_kept = verdicts;
+    decoded_kept = λ j ne. spelled_by j (proof_at bytes j) (keeps.proofs_kept j ne);
+    steps_kept = steps_stay;
+    verdicts_kept = λ j ne. comes_by j (proof_at bytes j) (keeps.proofs_kept j ne);
+    same_verdicts = same_verdicts;
     accepts_kept = accepts;
     accepts_back = accepted;
-    own_decoded = own;
-    own_compressed = ap is_compressed_text keeps.proof_is;
-    own_verdict = own_comes;
+    own_decoded = spelled_by id text keeps.proof_is ∙ own_spelled;
+    own_verdict = comes_by id text keeps.proof_is ∙ ap (verdict_by bytes id) own_spelled;
   }

@@ -1,14 +1,13 @@
 -- What a database says after any number of saves.
-use Rattle.std.specs.Prelude.{◌≡◌, ◌≤◌, ℕ, true, List, [], ◌∷◌, Option, None, Some, Result, length, fold}
+use Rattle.std.specs.Prelude.{◌≡◌, ◌≤◌, ℕ, true, List, [], ◌∷◌, Option, None, Some, Result, Ok, length, fold}
 use Rattle.mm_scope.specs.Contents.{is_read, find_label, labels_of, symbols_of, stated_at, active_at, variables_at, distinct_at, is_variable_of, active_symbol_at, active_of, active_pairs_of, is_typecode_of}
 use Rattle.mm_scope.specs.Description.{is_usage_guarded, is_change_guarded}
 use Rattle.mm_scope.specs.Judged.{most_bytes}
 use Rattle.mm_stated.specs.declared.statement.Kind.TheVariants.{Theorem}
 use Rattle.mm_stack.specs.Accepting.{Accepts, verdict_by, verdict_of}
-use Rattle.mm_stack.specs.Decoding.{decoded, is_compressed}
-use Rattle.mm_stack.specs.declared.outcome.ProofFault.{ProofFault}
-use Rattle.mm_stack.specs.declared.step.Step.{Step}
-use Rattle.mm_splice.specs.Judging.{spelled, is_compressed_text}
+use Rattle.mm_proof.specs.Decoding.{decoded, spelled}
+use Rattle.mm_proof.specs.declared.fault.ProofFault.{ProofFault}
+use Rattle.mm_proof.specs.declared.step.ProofStep.{ProofStep}
 use Rattle.mm_splice.specs.Keeping.{proof_at, description_text}
 use Rattle.mm_splice.specs.Overlay.{Save, overlay, with_proofs}
 use Rattle.mm_splice.specs.Splicing.{spliced, is_proof_text}
@@ -40,20 +39,20 @@ pub record AgreesWith (file : List ℕ) (saved : ℕ → Option (List ℕ)) (now
   pub descriptions_kept : (j : ℕ) → description_text now j ≡ description_text file j
   pub usage_kept : (j : ℕ) → is_usage_guarded now j ≡ is_usage_guarded file j
   pub change_kept : (j : ℕ) → is_change_guarded now j ≡ is_change_guarded file j
-  pub spelled_kept : (j : ℕ) (text : List ℕ) → spelled now j text ≡ spelled file j text
-  pub comes_kept : (j : ℕ) (steps : Result (List Step) ProofFault) → verdict_by now j steps ≡ verdict_by file j steps
+  pub spelled_kept : (j from : ℕ) (text : List ℕ) → spelled now j from text ≡ spelled file j from text
+  pub comes_kept : (j : ℕ) (steps : Result (List ProofStep) ProofFault) → verdict_by now j steps ≡ verdict_by file j steps
 
--- Of a theorem of which nothing was saved comes what comes of it in the file, so it is accepted now where it is there; of
--- another comes what the saved text spells there.
+-- Of a theorem of which nothing was saved comes what comes of it in the file, but that a place in its proof's fault is that
+-- where the proof stands now; so it is accepted now where it is there. Of another comes what the saved text spells there.
 pub record JudgesAs (file : List ℕ) (saved : ℕ → Option (List ℕ)) (now : List ℕ) : Type 0 where
-  pub decoded_kept : (j : ℕ) → saved j ≡ None → decoded now j ≡ decoded file j
-  pub compressed_kept : (j : ℕ) → saved j ≡ None → is_compressed now j ≡ is_compressed file j
-  pub verdicts_kept : (j : ℕ) → saved j ≡ None → verdict_of now j ≡ verdict_of file j
+  pub decoded_kept : (j : ℕ) → saved j ≡ None → decoded now j ≡ spelled file j (stated_at now j).from (proof_at file j)
+  pub steps_kept : (j : ℕ) (steps : List ProofStep) → saved j ≡ None → decoded file j ≡ Ok steps → decoded now j ≡ Ok steps
+  pub verdicts_kept : (j : ℕ) → saved j ≡ None → verdict_of now j ≡ verdict_by file j (spelled file j (stated_at now j).from (proof_at file j))
+  pub same_verdicts : (j : ℕ) (steps : List ProofStep) → saved j ≡ None → decoded file j ≡ Ok steps → verdict_of now j ≡ verdict_of file j
   pub accepts_kept : (label : List ℕ) (j : ℕ) → find_label file label ≡ Some j → saved j ≡ None → Accepts file label → Accepts now label
   pub accepts_back : (label : List ℕ) (j : ℕ) → find_label file label ≡ Some j → saved j ≡ None → Accepts now label → Accepts file label
-  pub decoded_saved : (j : ℕ) (text : List ℕ) → saved j ≡ Some text → decoded now j ≡ spelled file j text
-  pub compressed_saved : (j : ℕ) (text : List ℕ) → saved j ≡ Some text → is_compressed now j ≡ is_compressed_text text
-  pub verdicts_saved : (j : ℕ) (text : List ℕ) → saved j ≡ Some text → verdict_of now j ≡ verdict_by file j (spelled file j text)
+  pub decoded_saved : (j : ℕ) (text : List ℕ) → saved j ≡ Some text → decoded now j ≡ spelled file j (stated_at now j).from text
+  pub verdicts_saved : (j : ℕ) (text : List ℕ) → saved j ≡ Some text → verdict_of now j ≡ verdict_by file j (spelled file j (stated_at now j).from text)
 
 -- A save can be made: it is of a theorem of the file, the text may stand as a proof, and the database is not too long
 -- afterwards.

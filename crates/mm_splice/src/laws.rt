@@ -27,9 +27,9 @@ pub fn splicing_keeps(bytes: &[u8], id: StmtId, text: &[u8])
     let _ = text;
 }
 
-/// And what is judged of proofs stays (Metamath book, section 4.1.4): each other theorem's proof spells the same steps, and
-/// the same comes of it, so the other theorems that are accepted are the same ones. Of the theorem itself comes what the
-/// text spells in the database as it was.
+/// And what is judged of proofs stays (Metamath book, section 4.1.4): each other theorem's proof spells the same steps or has
+/// the same fault, at the place where it stands now, and the same comes of it. So the other theorems that are accepted are the
+/// same ones. Of the theorem itself comes what the text spells in the database as it was.
 pub fn splicing_keeps_verdicts(bytes: &[u8], id: StmtId, text: &[u8])
     requires read { is_read bytes.now ≡ true }
     requires theorem { (stated_at bytes.now id.0).kind ≡ Theorem }
@@ -55,8 +55,8 @@ pub fn saves_overlay_the_file(file: &[u8])
     let _ = file;
 }
 
-/// What is judged of proofs after saves: of a theorem of which nothing was saved the same as in the file that was read, and
-/// of each other what its last saved text spells in that file.
+/// What is judged of proofs after saves: of a theorem of which nothing was saved the same as in the file that was read, but that
+/// a place in its proof's fault is the one now; and of each other what its last saved text spells in that file.
 pub fn saves_decide_verdicts(file: &[u8])
     requires read { is_read file.now ≡ true }
     ensures { (saved : ℕ → Option (List ℕ)) (now : List ℕ) → AgreesWith file.now saved now → JudgesAs file.now saved now }

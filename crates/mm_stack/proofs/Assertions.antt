@@ -181,7 +181,7 @@ module _ (bytes : List ℕ) (groups : List (List ℕ)) (a : Stated) (stack : Lis
   pub disagreed : (value : ℕ → List ℕ) → Fits value → false ≡ list_all (is_instance value) (newest bytes ms stack) → applied bytes groups a stack k ≡ Err (Faulty (EssentialMismatch k))
   disagreed value f e = disagrees bytes groups a stack k (room_all value f) (typed_all value f) (agree_all value false f e)
 
-  concluded : (value : ℕ → List ℕ) (ss : List ℕ) → Fits value → ss ≡ a.symbols → conclusion_at bytes a stack ≡ instance value ss
+  pub concluded : (value : ℕ → List ℕ) (ss : List ℕ) → Fits value → ss ≡ a.symbols → conclusion_at bytes a stack ≡ instance value ss
   concluded value ss f e = ap (λ v. instance v a.symbols) (means_all value f) ∙ ap (instance value) (sym e)
 
   -- the violations, under the values that are found

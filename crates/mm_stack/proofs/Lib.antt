@@ -1,9 +1,8 @@
-pub mod Cuts
+pub mod Parts
 pub mod Turns
 pub mod Instances
 pub mod Assertions
 pub mod RunLemmas
-pub mod Spelling
 pub mod Kept
 pub mod Substituting
 mod Firsts

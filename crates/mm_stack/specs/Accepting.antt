@@ -1,17 +1,15 @@
 -- What comes of a theorem's proof, and which theorems are accepted.
-use Rattle.std.specs.Prelude.{◌≡◌, ℕ, true, false, List, [], ◌∷◌, Some, Result, Ok, Err, length, if◌then◌else◌}
+use Rattle.std.specs.Prelude.{◌≡◌, ℕ, true, List, [], ◌∷◌, Some, Result, Ok, Err, length, if◌then◌else◌}
 use Rattle.std.specs.Str.{bytes_eq}
 use Rattle.mm_scope.specs.Contents.{is_read, stated_at, find_label, distinct_at}
 use Rattle.mm_stated.specs.declared.statement.Kind.TheVariants.{Theorem}
-use Rattle.mm_stack.specs.Decoding.{decoded, is_compressed}
+use Rattle.mm_proof.specs.Decoding.{decoded}
+use Rattle.mm_proof.specs.declared.fault.ProofFault.{ProofFault}
+use Rattle.mm_proof.specs.declared.step.ProofStep.{ProofStep}
 use Rattle.mm_stack.specs.Running.{run}
-use Rattle.mm_stack.specs.declared.outcome.ProofFault.{ProofFault}
 use Rattle.mm_stack.specs.declared.outcome.StackFault.TheVariants.{Proof, LeftOver, WrongResult}
 use Rattle.mm_stack.specs.declared.outcome.Verdict.{Verdict}
 use Rattle.mm_stack.specs.declared.outcome.Verdict.TheVariants as verdict
-use Rattle.mm_stack.specs.declared.outcome.VerifyFault.{VerifyFault}
-use Rattle.mm_stack.specs.declared.outcome.VerifyFault.TheVariants.{Compressed, Memory}
-use Rattle.mm_stack.specs.declared.step.Step.{Step}
 
 -- at the end the theorem's statement is the one entry
 abbrev pub verdict_at : List ℕ → List (List ℕ) → Verdict
@@ -23,7 +21,7 @@ abbrev pub verdict_after : List ℕ → Result (List (List ℕ)) Verdict → Ver
 verdict_after goal (Ok stack) = verdict_at goal stack
 verdict_after goal (Err v) = v
 
-abbrev pub verdict_by : List ℕ → ℕ → Result (List Step) ProofFault → Verdict
+abbrev pub verdict_by : List ℕ → ℕ → Result (List ProofStep) ProofFault → Verdict
 verdict_by bytes id (Ok steps) = verdict_after (stated_at bytes id).symbols (run bytes (distinct_at bytes id) steps)
 verdict_by bytes id (Err e) = verdict.Faulty (Proof e)
 
@@ -31,17 +29,10 @@ verdict_by bytes id (Err e) = verdict.Faulty (Proof e)
 unfoldable pub verdict_of : List ℕ → ℕ → Verdict
 verdict_of bytes id = verdict_by bytes id (decoded bytes id)
 
--- a database says that the label's theorem holds: it is read, and the theorem's proof is a normal one and accepted
+-- a database says that the label's theorem holds: it is read, and the theorem's proof is accepted
 pub record Accepts (bytes label : List ℕ) : Type 0 where
   pub id : ℕ
   pub read : is_read bytes ≡ true
   pub found : find_label bytes label ≡ Some id
   pub theorem : (stated_at bytes id).kind ≡ Theorem
-  pub normal : is_compressed bytes id ≡ false
   pub accepted : verdict_of bytes id ≡ verdict.Accepted
-
--- what is answered of a theorem's proof, unless memory runs out
-abbrev pub Judges : List ℕ → ℕ → Result Verdict VerifyFault → Type 0
-Judges bytes id (Ok v) = (is_compressed bytes id ≡ false) × (v ≡ verdict_of bytes id)
-Judges bytes id (Err Compressed) = is_compressed bytes id ≡ true
-Judges bytes id (Err Memory) = Unit {0}

@@ -1,17 +1,27 @@
--- The entries of a stack whose symbols stand in one buffer.
-use Rattle.std.specs.Prelude.{◌≤◌, ℕ, List, [], ◌∷◌, slice_range}
+-- The entries of a stack: the results of steps, which stand in one buffer of symbols.
+use Rattle.std.specs.Prelude.{◌≤◌, ◌<◌, ℕ, List, [], length, map, slice_range, slice_index_or}
+use Rattle.std.specs.List.{AllByRecursion}
+use Rattle.mm_stack.specs.declared.stack.Part.{Part}
 
--- the parts of the buffer from the first place on, each up to the next end
-abbrev pub entries_from : List ℕ → ℕ → List ℕ → List (List ℕ)
-entries_from symbols from [] = []
-entries_from symbols from (to ∷ ends) = slice_range symbols from to ∷ entries_from symbols to ends
+-- the symbols of a part of the buffer
+abbrev pub symbols_of : List ℕ → Part → List ℕ
+symbols_of buffer p = slice_range buffer p.start p.end
 
--- the last end, or the first place
-abbrev pub top_from : ℕ → List ℕ → ℕ
-top_from from [] = from
-top_from from (to ∷ ends) = top_from to ends
+abbrev pub results_in : List ℕ → List Part → List (List ℕ)
+results_in buffer parts = map (symbols_of buffer) parts
 
--- the first place and the ends rise, up to n at most
-abbrev pub IsCut : ℕ → List ℕ → ℕ → Type 0
-IsCut from [] n = from ≤ n
-IsCut from (to ∷ ends) n = (from ≤ to) × IsCut to ends n
+-- the result with a number, counted from 0; no symbols where there is none
+abbrev pub result_at : List (List ℕ) → ℕ → List ℕ
+result_at results n = slice_index_or results n []
+
+-- the entries that are results with these numbers
+abbrev pub entries_in : List (List ℕ) → List ℕ → List (List ℕ)
+entries_in results numbers = map (result_at results) numbers
+
+abbrev pub IsPart : ℕ → Part → Type 0
+IsPart n p = (p.start ≤ p.end) × (p.end ≤ n)
+
+-- each result is a part of the buffer, and each entry is a result
+pub record AreKept (buffer : List ℕ) (parts : List Part) (numbers : List ℕ) : Type 0 where
+  pub own_parts : AllByRecursion (IsPart (length buffer)) parts
+  pub own_numbers : AllByRecursion (λ n. n < length parts) numbers

@@ -1,10 +1,8 @@
 pub mod Entries
 pub mod Seats
 pub mod Substitution
-pub mod Faults
 pub mod Differing
 pub mod Running
-pub mod Decoding
 pub mod Accepting
 pub mod Machines
 pub mod Laws

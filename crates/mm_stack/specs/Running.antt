@@ -9,13 +9,15 @@ pub use Rattle.mm_scope.specs.Steps.{most_symbols}
 use Rattle.mm_stated.specs.declared.statement.Kind.{Kind}
 use Rattle.mm_stated.specs.declared.statement.Kind.TheVariants as kind
 use Rattle.mm_stack.specs.Differing.{violations}
+use Rattle.mm_stack.specs.Entries.{result_at}
 use Rattle.mm_stack.specs.Substitution.{Binding, value_of, instance}
 use Rattle.mm_stack.specs.declared.outcome.StackFault.{StackFault}
 use Rattle.mm_stack.specs.declared.outcome.StackFault.TheVariants.{Underflow, FloatMismatch, EssentialMismatch, TooLong}
 use Rattle.mm_stack.specs.declared.outcome.Verdict.{Verdict}
 use Rattle.mm_stack.specs.declared.outcome.Verdict.TheVariants.{Incomplete, Faulty}
-use Rattle.mm_stack.specs.declared.step.Step.{Step}
-use Rattle.mm_stack.specs.declared.step.Step.TheVariants.{Hyp, Apply, Unknown}
+use Rattle.mm_proof.specs.declared.step.ProofStep.{ProofStep}
+use Rattle.mm_proof.specs.declared.step.StepKind.{StepKind}
+use Rattle.mm_proof.specs.declared.step.StepKind.TheVariants.{Hyp, Apply, Back, Unknown}
 
 abbrev pub is_float : Kind → Bool
 is_float kind.Float = true
@@ -109,17 +111,39 @@ checks bytes groups a stack k =
 unfoldable pub applied : List ℕ → List (List ℕ) → Stated → List (List ℕ) → ℕ → Result (List (List ℕ)) Verdict
 applied bytes groups a stack k = unless (checks bytes groups a stack k) (Ok (take (kept a stack) stack ++ conclusion_at bytes a stack ∷ []))
 
--- the stack after step k
-abbrev pub run_step : List ℕ → List (List ℕ) → List (List ℕ) → ℕ → Step → Result (List (List ℕ)) Verdict
-run_step bytes groups stack k (Hyp id) = Ok (stack ++ (stated_at bytes id.0).symbols ∷ [])
-run_step bytes groups stack k (Apply id) = applied bytes groups (stated_at bytes id.0) stack k
-run_step bytes groups stack k Unknown = Err Incomplete
+-- where a run stands: its stack, and the result of each step so far, which is the entry that it pushed
+pub record Progress : Type 0 where
+  pub stack : List (List ℕ)
+  pub results : List (List ℕ)
 
--- the stack after these steps, of which the first is step k, or what ends the run before
-unfoldable pub run_from : List ℕ → List (List ℕ) → List (List ℕ) → ℕ → List Step → Result (List (List ℕ)) Verdict
-run_from bytes groups stack k [] = Ok stack
-run_from bytes groups stack k (s ∷ ss) = after (run_step bytes groups stack k s) (λ next. run_from bytes groups next (k + 1) ss)
+abbrev pub start : Progress
+start = record { stack = []; results = [] }
+
+-- the number of the next step; steps are counted from 1
+abbrev pub next_number : Progress → ℕ
+next_number p = length p.results + 1
+
+-- an entry more
+abbrev pub pushing : Progress → List ℕ → Progress
+pushing p e = record { stack = p.stack ++ e ∷ []; results = p.results ++ e ∷ [] }
+
+-- an assertion as the next step
+abbrev pub applying : List ℕ → List (List ℕ) → Stated → Progress → Result Progress Verdict
+applying bytes groups a p =
+    after (applied bytes groups a p.stack (next_number p)) (λ stack. Ok (record { stack = stack; results = p.results ++ conclusion_at bytes a p.stack ∷ [] }))
+
+-- the next step; one that refers back pushes the result of the step that it names
+abbrev pub run_step : List ℕ → List (List ℕ) → Progress → StepKind → Result Progress Verdict
+run_step bytes groups p (Hyp id) = Ok (pushing p (stated_at bytes id.0).symbols)
+run_step bytes groups p (Apply id) = applying bytes groups (stated_at bytes id.0) p
+run_step bytes groups p (Back k) = Ok (pushing p (result_at p.results (k - 1)))
+run_step bytes groups p Unknown = Err Incomplete
+
+-- where a run stands after further steps, or what ends it before
+unfoldable pub run_from : List ℕ → List (List ℕ) → Progress → List ProofStep → Result Progress Verdict
+run_from bytes groups p [] = Ok p
+run_from bytes groups p (s ∷ ss) = after (run_step bytes groups p s.kind) (λ next. run_from bytes groups next ss)
 
 -- the stack at the end of a proof, or what ends its run before; variables of a group must differ
-abbrev pub run : List ℕ → List (List ℕ) → List Step → Result (List (List ℕ)) Verdict
-run bytes groups steps = run_from bytes groups [] 1 steps
+abbrev pub run : List ℕ → List (List ℕ) → List ProofStep → Result (List (List ℕ)) Verdict
+run bytes groups steps = after (run_from bytes groups start steps) (λ p. Ok p.stack)

@@ -3,18 +3,18 @@
 ghost use Rattle.std.specs.Prelude.{◌≡◌, ◌<◌, List, ℕ, length, IfOk};
 ghost use Rattle.mm_scope.specs.Contents.{labels_of, stated_at};
 ghost use Rattle.mm_stated.specs.declared.statement.Kind.TheVariants.{Theorem};
-ghost use Rattle.mm_stack.specs.Accepting.{verdict_at, verdict_of, Judges};
+ghost use Rattle.mm_stack.specs.Accepting.{verdict_at, verdict_of};
 
-use crate::decode::{decode, is_compressed};
 use crate::machine::{Machine, Stop};
-use crate::outcome::{ProofFault, StackFault, Verdict, VerifyFault};
+use crate::outcome::{StackFault, Verdict};
 use crate::stack::Stack;
+use mm_proof::{ProofFault, decode};
 use mm_scope::{Database, StmtId};
 use std::alloc::{AllocError as Memory, Global};
 
 /// What the stack at the end of a run says of a theorem with these symbols.
 fn verdict_at(stack: &Stack, goal: &[u32]) -> Verdict
-    ensures { result ≡ verdict_at goal.now stack.now }
+    ensures { result ≡ verdict_at goal.now stack.now.stack }
 {
     let count = stack.count();
     if count != 1 {
@@ -27,9 +27,11 @@ fn verdict_at(stack: &Stack, goal: &[u32]) -> Verdict
     }
 }
 
-/// What comes of a theorem's normal proof.
+/// Verifies the proof of a theorem, in either form: what comes of it is the first of these. Its text has a fault; a step is
+/// `?`; a step has a fault; the stack at the end is not the theorem's statement alone. Otherwise it is accepted (Metamath
+/// book, section 4.1.4).
 #[tactic(auto, unfolding(crate::specs::Accepting::verdict_of))]
-fn verdict_of(alloc: Global, db: &Database, id: StmtId) -> Result<Verdict, Memory>
+pub fn verify(alloc: Global, db: &Database, id: StmtId) -> Result<Verdict, Memory>
     requires own { id.0 < length (labels_of db.now) }
     requires theorem { (stated_at db.now id.0).kind ≡ Theorem }
     ensures { IfOk result (λ verdict. verdict ≡ verdict_of db.now id.0) }
@@ -41,7 +43,7 @@ fn verdict_of(alloc: Global, db: &Database, id: StmtId) -> Result<Verdict, Memor
     };
     let parted = db.parted(alloc, id)?;
     let mut machine = Machine::new(alloc);
-    match machine.run(db, &parted, steps.as_slice()) {
+    match machine.run(db, &parted, steps.steps()) {
         Ok(()) => {
             let goal = db.frame(id).conclusion.as_slice();
             Ok(verdict_at(&machine.stack, goal))
@@ -49,22 +51,4 @@ fn verdict_of(alloc: Global, db: &Database, id: StmtId) -> Result<Verdict, Memor
         Err(Stop::Ended(verdict)) => Ok(verdict),
         Err(Stop::Memory) => Err(Memory),
     }
-}
-
-/// Verifies the proof of a theorem: what comes of it is the first of these. Its text has a fault; a step is `?`; a step
-/// has a fault; the stack at the end is not the theorem's statement alone. Otherwise it is accepted (Metamath book,
-/// section 4.1.4).
-///
-/// # Errors
-/// `Compressed` exactly where the proof's first token is `(`, and want of memory.
-pub fn verify(alloc: Global, db: &Database, id: StmtId) -> Result<Verdict, VerifyFault>
-    requires own { id.0 < length (labels_of db.now) }
-    requires theorem { (stated_at db.now id.0).kind ≡ Theorem }
-    ensures { Judges db.now id.0 result }
-{
-    if is_compressed(db, id) {
-        return Err(VerifyFault::Compressed);
-    }
-    let verdict = verdict_of(alloc, db, id)?;
-    Ok(verdict)
 }

@@ -73,7 +73,7 @@ pub fn violation(
     stack: &Stack,
     pairs: &[Pair],
 ) -> Option<StackFault>
-    ensures { result ≡ slice_get (violations db.now parted.now number (value_in values.now stack.now) pairs.now) 0 }
+    ensures { result ≡ slice_get (violations db.now parted.now number (value_in values.now stack.now.stack) pairs.now) 0 }
 {
     for pair in pairs {
         let left = value(values, stack, &pair.first);

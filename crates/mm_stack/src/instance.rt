@@ -14,7 +14,7 @@ use std::slice;
 
 /// What stands for a symbol.
 pub fn value<'a>(values: &Values, stack: &'a Stack, symbol: &'a u32) -> &'a [u32]
-    ensures { result.now ≡ value_in values.now stack.now symbol.now }
+    ensures { result.now ≡ value_in values.now stack.now.stack symbol.now }
 {
     match values.get(*symbol) {
         Some(entry) => match stack.entry(entry) {
@@ -32,8 +32,8 @@ pub fn fill(
     symbols: &[u32],
     out: &mut Vec<u32>,
 ) -> Result<bool, AllocError>
-    ensures fits { IfOk result (λ fits. fits ≡ not (nat_lt most_symbols (length (instance (value_in values.now stack.now) symbols.now)))) }
-    ensures value { IfOk result (λ fits. fits ≡ true → out.new.items ≡ instance (value_in values.now stack.now) symbols.now) }
+    ensures fits { IfOk result (λ fits. fits ≡ not (nat_lt most_symbols (length (instance (value_in values.now stack.now.stack) symbols.now)))) }
+    ensures value { IfOk result (λ fits. fits ≡ true → out.new.items ≡ instance (value_in values.now stack.now.stack) symbols.now) }
 {
     out.clear();
     for symbol in symbols {
@@ -48,7 +48,7 @@ pub fn fill(
 
 /// Whether the entry is the instance of the symbols.
 pub fn is_instance(values: &Values, stack: &Stack, symbols: &[u32], entry: &[u32]) -> bool
-    ensures { result ≡ bytes_eq (instance (value_in values.now stack.now) symbols.now) entry.now }
+    ensures { result ≡ bytes_eq (instance (value_in values.now stack.now.stack) symbols.now) entry.now }
 {
     let mut rest = entry;
     for symbol in symbols {

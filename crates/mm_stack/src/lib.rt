@@ -2,20 +2,20 @@
 //!
 //! A proof is a list of steps. A hypothesis pushes its statement. An assertion pops an entry for each of its mandatory
 //! hypotheses, and pushes its conclusion under the substitution that makes the hypotheses those entries
-//! (Metamath book, section 4.3).
+//! (Metamath book, section 4.3). A step that refers back pushes what the step pushed that it names (Appendix B).
 #![tactic(auto)]
 
 mod accept;
-mod decode;
 mod differing;
 mod instance;
 mod laws;
 mod machine;
 mod outcome;
 mod stack;
-mod step;
 mod values;
 
 pub use accept::verify;
 pub use laws::assertions_substitute;
-pub use outcome::{ProofFault, StackFault, Verdict, VerifyFault};
+pub use mm_proof::ProofFault;
+pub use outcome::{StackFault, Verdict};
+pub use std::alloc::AllocError as Memory;

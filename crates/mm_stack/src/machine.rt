@@ -1,20 +1,21 @@
 //! The proof machine: the run of a proof's steps.
 
-ghost use Rattle.std.specs.Prelude.{◌≡◌, ◌≤◌, ◌<◌, ◌+◌, ◌-◌, ◌^◌, true, List, [], length, drop, All, IfOk, Ok, Err, slice_index_or};
-ghost use Rattle.std.specs.List.{list_all};
+ghost use Rattle.std.specs.Prelude.{◌≡◌, ◌≤◌, ◌<◌, ◌-◌, true, List, [], length, drop, All, IfOk, slice_index_or};
+ghost use Rattle.std.specs.List.{AllByRecursion, list_all};
 ghost use Rattle.mm_scope.specs.Contents.{labels_of, stated_at};
+ghost use Rattle.mm_proof.specs.Steps.{IsOwn};
 ghost use Rattle.mm_stack.specs.Seats.{value_in};
 ghost use Rattle.mm_stack.specs.Substitution.{Binding};
-ghost use Rattle.mm_stack.specs.Running.{arguments, has_typecode, bind, substitution_of, is_instance, applied, run_step, run_from, run};
-ghost use Rattle.mm_stack.specs.Machines.{Means, IsOwn, GivesStack};
+ghost use Rattle.mm_stack.specs.Running.{arguments, has_typecode, bind, substitution_of, is_instance, applying, start, run_step, run_from};
+ghost use Rattle.mm_stack.specs.Machines.{Means, Stands};
 ghost use Rattle.mm_stack.specs.declared.machine.Stop.TheVariants.{Memory};
 
 use crate::differing::violation;
 use crate::instance::{fill, is_instance};
 use crate::outcome::{StackFault, Verdict};
 use crate::stack::Stack;
-use crate::step::Step;
 use crate::values::Values;
+use mm_proof::{ProofStep, StepKind};
 use mm_scope::{Database, Kind, StmtId};
 use mm_tables::Parted;
 use std::alloc::{AllocError, Global};
@@ -39,7 +40,7 @@ impl From<AllocError> for Stop {
 pub struct Machine {
     pub stack: Stack,
     values: Values,
-    pushed: Vec<u32>,
+    conclusion: Vec<u32>,
 }
 
 fn faulty(fault: StackFault) -> Stop
@@ -58,8 +59,8 @@ fn bind(
     number: usize,
 ) -> Result<bool, AllocError>
     requires { hypothesis.0 < length (labels_of db.now) }
-    ensures fits { IfOk result (λ fits. fits ≡ has_typecode (record { hypothesis = stated_at db.now hypothesis.0; entry = slice_index_or stack.now number [] })) }
-    ensures means { IfOk result (λ fits. fits ≡ true → (sigma : List Binding) → Means values.old stack.now sigma → Means values.new stack.now (bind (record { hypothesis = stated_at db.now hypothesis.0; entry = slice_index_or stack.now number [] }) sigma)) }
+    ensures fits { IfOk result (λ fits. fits ≡ has_typecode (record { hypothesis = stated_at db.now hypothesis.0; entry = slice_index_or stack.now.stack number [] })) }
+    ensures means { IfOk result (λ fits. fits ≡ true → (sigma : List Binding) → Means values.old stack.now.stack sigma → Means values.new stack.now.stack (bind (record { hypothesis = stated_at db.now hypothesis.0; entry = slice_index_or stack.now.stack number [] }) sigma)) }
 {
     match db.kind(hypothesis) {
         Kind::Float => {
@@ -85,9 +86,9 @@ fn bind_all(
     mandatory: &[u32],
 ) -> Result<bool, AllocError>
     requires own { All (λ m. m < length (labels_of db.now)) mandatory.now }
-    requires room { length mandatory.now ≤ length stack.now }
-    ensures fits { IfOk result (λ fits. fits ≡ list_all has_typecode (arguments db.now mandatory.now (drop (length stack.now - length mandatory.now) stack.now))) }
-    ensures means { IfOk result (λ fits. fits ≡ true → Means values.new stack.now (substitution_of (arguments db.now mandatory.now (drop (length stack.now - length mandatory.now) stack.now)))) }
+    requires room { length mandatory.now ≤ length stack.now.stack }
+    ensures fits { IfOk result (λ fits. fits ≡ list_all has_typecode (arguments db.now mandatory.now (drop (length stack.now.stack - length mandatory.now) stack.now.stack))) }
+    ensures means { IfOk result (λ fits. fits ≡ true → Means values.new stack.now.stack (substitution_of (arguments db.now mandatory.now (drop (length stack.now.stack - length mandatory.now) stack.now.stack)))) }
 {
     values.clear();
     let mut number = stack.count();
@@ -105,7 +106,7 @@ fn bind_all(
 /// Whether the entry of a stack is the instance of a `$e`. Another hypothesis agrees with each entry.
 fn agrees(values: &Values, stack: &Stack, db: &Database, hypothesis: StmtId, number: usize) -> bool
     requires { hypothesis.0 < length (labels_of db.now) }
-    ensures { result ≡ is_instance (value_in values.now stack.now) (record { hypothesis = stated_at db.now hypothesis.0; entry = slice_index_or stack.now number [] }) }
+    ensures { result ≡ is_instance (value_in values.now stack.now.stack) (record { hypothesis = stated_at db.now hypothesis.0; entry = slice_index_or stack.now.stack number [] }) }
 {
     match db.kind(hypothesis) {
         Kind::Float => true,
@@ -119,8 +120,8 @@ fn agrees(values: &Values, stack: &Stack, db: &Database, hypothesis: StmtId, num
 /// Whether the newest entries are the instances of the mandatory `$e`.
 fn all_agree(values: &Values, stack: &Stack, db: &Database, mandatory: &[u32]) -> bool
     requires own { All (λ m. m < length (labels_of db.now)) mandatory.now }
-    requires room { length mandatory.now ≤ length stack.now }
-    ensures { result ≡ list_all (is_instance (value_in values.now stack.now)) (arguments db.now mandatory.now (drop (length stack.now - length mandatory.now) stack.now)) }
+    requires room { length mandatory.now ≤ length stack.now.stack }
+    ensures { result ≡ list_all (is_instance (value_in values.now stack.now.stack)) (arguments db.now mandatory.now (drop (length stack.now.stack - length mandatory.now) stack.now.stack)) }
 {
     let mut number = stack.count();
     let mut left = mandatory.len();
@@ -135,22 +136,23 @@ fn all_agree(values: &Values, stack: &Stack, db: &Database, mandatory: &[u32]) -
 }
 
 impl Machine {
-    /// A machine with an empty stack. It takes no memory.
+    /// A machine before the first step. It takes no memory.
     pub fn new(alloc: Global) -> Machine
-        ensures { result.stack ≡ [] }
+        ensures { result.stack ≡ start }
     {
         Machine {
             stack: Stack::new(alloc),
             values: Values::new(alloc),
-            pushed: Vec::new(alloc),
+            conclusion: Vec::new(alloc),
         }
     }
 
-    /// Runs an assertion as the step with this number.
-    fn apply(&mut self, db: &Database, parted: &Parted, id: StmtId, number: u64) -> Result<(), Stop>
+    /// Runs an assertion as the next step.
+    fn apply(&mut self, db: &Database, parted: &Parted, id: StmtId) -> Result<(), Stop>
         requires { id.0 < length (labels_of db.now) }
-        ensures { GivesStack self.new.stack result (applied db.now parted.now (stated_at db.now id.0) self.old.stack number) }
+        ensures { Stands self.new.stack result (applying db.now parted.now (stated_at db.now id.0) self.old.stack) }
     {
+        let number = self.stack.next_number();
         let frame = db.frame(id);
         let mandatory = frame.mandatory.as_slice();
         let count = self.stack.count();
@@ -168,37 +170,41 @@ impl Machine {
             return Err(faulty(fault));
         }
         let symbols = frame.conclusion.as_slice();
-        if !fill(&self.values, &self.stack, symbols, &mut self.pushed)? {
+        if !fill(&self.values, &self.stack, symbols, &mut self.conclusion)? {
             return Err(faulty(StackFault::TooLong(number)));
         }
         self.stack.truncate(count - mandatory.len());
-        self.stack.push(self.pushed.as_slice())?;
+        self.stack.push(self.conclusion.as_slice())?;
         Ok(())
     }
 
-    /// Runs the step with this number.
-    fn step(&mut self, db: &Database, parted: &Parted, step: Step, number: u64) -> Result<(), Stop>
+    /// Runs the next step.
+    fn step(&mut self, db: &Database, parted: &Parted, step: StepKind) -> Result<(), Stop>
         requires { IsOwn db.now step }
-        ensures { GivesStack self.new.stack result (run_step db.now parted.now self.old.stack number step) }
+        ensures { Stands self.new.stack result (run_step db.now parted.now self.old.stack step) }
     {
         match step {
-            Step::Hyp(id) => {
+            StepKind::Hyp(id) => {
                 self.stack.push(db.frame(id).conclusion.as_slice())?;
                 Ok(())
             }
-            Step::Apply(id) => self.apply(db, parted, id, number),
-            Step::Unknown => Err(Stop::Ended(Verdict::Incomplete)),
+            StepKind::Apply(id) => self.apply(db, parted, id),
+            StepKind::Back(number) => {
+                self.stack.repeat((number as usize).saturating_sub(1))?;
+                Ok(())
+            }
+            StepKind::Unknown => Err(Stop::Ended(Verdict::Incomplete)),
         }
     }
 
-    /// Runs the steps from an empty stack, where variables of these groups must differ.
-    pub fn run(&mut self, db: &Database, parted: &Parted, steps: &[Step]) -> Result<(), Stop>
-        requires own { All (IsOwn db.now) steps.now }
-        requires empty { self.old.stack ≡ [] }
-        ensures { GivesStack self.new.stack result (run db.now parted.now steps.now) }
+    /// Runs the steps of a proof, where variables of these groups must differ.
+    pub fn run(&mut self, db: &Database, parted: &Parted, steps: &[ProofStep]) -> Result<(), Stop>
+        requires own { AllByRecursion (λ s. IsOwn db.now s.kind) steps.now }
+        requires first { self.old.stack ≡ start }
+        ensures { Stands self.new.stack result (run_from db.now parted.now start steps.now) }
     {
-        for (index, step) in steps.iter().enumerate() {
-            self.step(db, parted, *step, index as u64 + 1)?;
+        for step in steps {
+            self.step(db, parted, step.kind)?;
         }
         Ok(())
     }

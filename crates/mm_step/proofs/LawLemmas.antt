@@ -11,11 +11,13 @@ use Rattle.mm_shell.specs.Sound.{IsSound}
 use Rattle.mm_shell.specs.declared.state.State.{State}
 use Rattle.mm_shell.specs.declared.answer.Done.{Done}
 use Rattle.mm_shell.specs.declared.refusal.Refusal.{Refusal}
-use Rattle.mm_shell.specs.declared.refusal.Refusal.TheVariants.{NotBuilt, LineTooLong, WrongWord, OutOfMemory, FileFault}
+use Rattle.mm_shell.specs.declared.refusal.Refusal.TheVariants.{LineTooLong, WrongWord, OutOfMemory, FileFault}
 use Rattle.mm_shell.proofs.FitLemmas.{answer_plan}
 use Rattle.mm_shell.proofs.FrameLemmas as frame
 use Rattle.mm_database_commands.specs.Commands.{database_plan}
 use Rattle.mm_database_commands.proofs.DatabaseFits.{IsFetching, database_fits, database_origin, no_origin, write_puts}
+use Rattle.mm_setting_commands.specs.Commands.{setting_answer}
+use Rattle.mm_setting_commands.proofs.SettingFits.{setting_fits}
 use Rattle.mm_edit_commands.specs.Edits.{edit_answer}
 use Rattle.mm_edit_commands.proofs.EditFits.{edit_fits}
 use Rattle.mm_proof_commands.specs.Commands.{proof_answer}
@@ -35,7 +37,7 @@ refused_fits s r = λ map. tt
 
 group_fits : (g : Group) (m : Meaning) (s : State) → IsSound s → PlanFits s (plan_in g m s)
 group_fits group.Database m s sound = database_fits m s
-group_fits group.Settings m s sound = refused_fits s NotBuilt
+group_fits group.Settings m s sound = answer_plan s (setting_answer m s) (setting_fits m s)
 group_fits group.Edits m s sound = answer_plan s (edit_answer m s) (edit_fits m s sound)
 group_fits group.Session m s sound = answer_plan s (proof_answer m s) (proof_fits m s sound)
 
@@ -80,7 +82,7 @@ saved_theorems_hold asked s map Faulted theorem before sound known e = known e
 
 group_origin : (g : Group) (m : Meaning) (s : State) (map : Map) (bytes : List ℕ) → origin_in (plan_in g m s) map ≡ File bytes → IsFetching m map bytes
 group_origin group.Database m s map bytes e = database_origin m s map bytes e
-group_origin group.Settings m s map bytes e = cc
+group_origin group.Settings m s map bytes e = absurd (no_origin (setting_answer m s) map bytes e)
 group_origin group.Edits m s map bytes e = absurd (no_origin (edit_answer m s) map bytes e)
 group_origin group.Session m s map bytes e = absurd (no_origin (proof_answer m s) map bytes e)
 

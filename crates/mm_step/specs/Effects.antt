@@ -8,8 +8,9 @@ use Rattle.mm_shell.specs.Changes.{state_after}
 use Rattle.mm_shell.specs.Texts.{text_of as answer_text, refusal_text}
 use Rattle.mm_shell.specs.declared.state.State.{State}
 use Rattle.mm_shell.specs.declared.refusal.Refusal.{Refusal}
-use Rattle.mm_shell.specs.declared.refusal.Refusal.TheVariants.{WrongWord, LineTooLong, FileFault, OutOfMemory, NotBuilt}
+use Rattle.mm_shell.specs.declared.refusal.Refusal.TheVariants.{WrongWord, LineTooLong, FileFault, OutOfMemory}
 use Rattle.mm_database_commands.specs.Commands.{database_plan}
+use Rattle.mm_setting_commands.specs.Commands.{setting_answer}
 use Rattle.mm_edit_commands.specs.Edits.{edit_answer}
 use Rattle.mm_proof_commands.specs.Commands.{proof_answer}
 use Rattle.mm_step.specs.Asked.{Asked, TooLong, Wrong, Asks, asked_of}
@@ -24,7 +25,7 @@ use Rattle.mm_step.specs.declared.reply.Reply.TheVariants as reply
 -- a command of a group
 abbrev pub plan_in : Group → Meaning → State → Plan
 plan_in group.Database m s = database_plan m s
-plan_in group.Settings m s = Err NotBuilt
+plan_in group.Settings m s = without_files (setting_answer m s)
 plan_in group.Edits m s = without_files (edit_answer m s)
 plan_in group.Session m s = without_files (proof_answer m s)
 

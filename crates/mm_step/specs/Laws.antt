@@ -8,6 +8,7 @@ use Rattle.mm_shell.specs.Sound.{IsSound}
 use Rattle.mm_shell.specs.declared.answer.Done.{Done}
 use Rattle.mm_shell.specs.declared.state.State.{State}
 use Rattle.mm_step.specs.Asked.{Asked, Asks}
+use Rattle.mm_step.specs.Logs.{IsLogChange, log_change}
 use Rattle.mm_step.specs.Effects.{Effect, Outcome, Fine, asked_effect, ended}
 
 -- the effect of what is asked, where it ends so
@@ -53,6 +54,10 @@ PutsTheDatabase = (name : List ℕ) (state : State) (map : Map) (outcome : Outco
 -- What ends the session has no text.
 abbrev pub EndsSilently : Type 0
 EndsSilently = (asked : Asked) (state : State) (map : Map) → IsSound state → state.ended ≡ false → (asked_effect asked state map).state.ended ≡ true → (asked_effect asked state map).text ≡ []
+
+-- A log is opened by OPEN LOG alone, and closed by CLOSE LOG alone, where they aren't refused.
+abbrev pub LogsChange : Type 0
+LogsChange = (asked : Asked) (state : State) (map : Map) (outcome : Outcome) → IsLogChange (log_change (effect_on asked state map outcome).refused asked) state.log_open (effect_on asked state map outcome).state.log_open
 
 -- What is reported holds: what is told of a theorem's proof is what comes of it in the database.
 abbrev pub ReportsHold : Type 0

@@ -7,7 +7,10 @@ ghost use Rattle.mm_shell.specs.Sound.{IsSound};
 ghost use Rattle.mm_database_commands.specs.Commands.{HasName, database_plan};
 ghost use Rattle.mm_edit_commands.specs.Edits.{edit_answer};
 ghost use Rattle.mm_proof_commands.specs.Commands.{proof_answer};
-ghost use Rattle.mm_step.specs.Effects.{command_plan, effect_in, is_faulted, step_of};
+ghost use Rattle.mm_setting_commands.specs.Commands.{setting_answer};
+ghost use Rattle.mm_step.specs.Asked.{asked_of};
+ghost use Rattle.mm_step.specs.Effects.{command_plan, effect_in, is_faulted, is_refused, step_of};
+ghost use Rattle.mm_step.specs.Logs.{IsLogChange, log_change};
 ghost use Rattle.mm_step.specs.Ran.{HasRun, Performs, Replies, Tells, reply_in};
 
 use crate::group::{Group, group_of};
@@ -17,7 +20,8 @@ use mm_base::{Files, Steps};
 use mm_command::{Command, MOST_LINE, read_command};
 use mm_database_commands::plan;
 use mm_edit_commands::edit;
-use mm_proof_commands::answer;
+use mm_proof_commands::answer as proof_answer;
+use mm_setting_commands::answer as setting_answer;
 use mm_shell::{Change, Refusal, State, Text, apply_change};
 use std::alloc::Global;
 use std::sync::ledger::Ledger;
@@ -36,6 +40,7 @@ pub fn step<F: Files, L: Ledger>(
     ensures effect { HasRun ⟦<F as Files>⟧ (λ map. step_of state.old map line.now) state.old files.old result state.new files.new }
     ensures told { IsTrue (F.tells files.new) → IsTrue (F.tells files.old) }
     ensures cause { CountsFaults (is_faulted result) (F.faults files.old) (F.faults files.new) }
+    ensures log { IsLogChange (log_change (is_refused result) (asked_of line.now)) state.old.log_open state.new.log_open }
 {
     if line.len() > MOST_LINE {
         return refuse(alloc, Refusal::LineTooLong);
@@ -63,7 +68,7 @@ fn run<F: Files, L: Ledger>(
 {
     match group_of(command) {
         Group::Database => run_database(alloc, state, files, command),
-        Group::Settings => refuse(alloc, Refusal::NotBuilt),
+        Group::Settings => run_setting(alloc, state, command),
         Group::Edits => run_edit(alloc, state, command, steps),
         Group::Session => run_proof(alloc, state, command),
     }
@@ -111,6 +116,32 @@ fn perform<F: Files>(
     }
 }
 
+// Runs a command on settings and logs.
+fn run_setting(alloc: Global, state: &mut State, command: Command<'_>) -> Reply
+    ensures { Replies (setting_answer (meaning_of command.entry) state.old) state.old result state.new }
+{
+    match tell_setting(alloc, state, command) {
+        Err(reply) => reply,
+        Ok((text, change)) => {
+            apply_change(state, change);
+            Reply::Done {
+                text,
+                refused: false,
+            }
+        }
+    }
+}
+
+// The text of the answer to such a command, and its change; or the reply where it is refused.
+fn tell_setting(alloc: Global, state: &State, command: Command<'_>) -> Result<(Text, Change), Reply>
+    ensures { Tells (setting_answer (meaning_of command.entry) state.now) result }
+{
+    match setting_answer(alloc, state, command) {
+        Err(refusal) => Err(refuse(alloc, refusal)),
+        Ok(done) => tell(alloc, done),
+    }
+}
+
 // Runs an edit of the open proof, and tells its counts, which takes no memory.
 fn run_edit<L: Ledger>(
     alloc: Global,
@@ -152,7 +183,7 @@ fn tell_answer(alloc: Global, state: &State, command: Command<'_>) -> Result<(Te
     requires { IsSound state.now }
     ensures { Tells (proof_answer (meaning_of command.entry) state.now) result }
 {
-    match answer(alloc, state, command) {
+    match proof_answer(alloc, state, command) {
         Err(refusal) => Err(refuse(alloc, refusal)),
         Ok(done) => tell(alloc, done),
     }

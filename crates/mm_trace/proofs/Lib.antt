@@ -1,1 +1,5 @@
 pub mod SegmentLemmas
+pub mod Ways
+pub mod Earlier
+pub mod Listing
+pub mod TraceLemmas

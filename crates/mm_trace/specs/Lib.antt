@@ -1,2 +1,5 @@
 pub mod Patterns
 pub mod Segments
+pub mod Uses
+pub mod Marks
+pub mod Traces

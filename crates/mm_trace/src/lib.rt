@@ -1,7 +1,15 @@
 //! Which statements are meant, and what they rest on.
 #![tactic(auto)]
 
+mod applied;
+mod closure;
+mod laws;
 mod part;
 mod pattern;
+mod trace;
 
+pub use applied::uses;
+pub use closure::{axioms, depended_on, dependents, users};
+pub use laws::{traces_tell_uses, ways_are_found};
 pub use pattern::matches;
+pub use trace::Trace;

@@ -10,3 +10,9 @@ pub mod Behind
 pub mod Rooms
 pub mod Longs
 pub mod Unknowns
+pub mod Occurs
+pub mod Written
+pub mod Bared
+pub mod Parted
+pub mod Later
+pub mod Floating

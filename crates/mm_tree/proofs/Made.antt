@@ -1,6 +1,7 @@
 -- The version in hand, and what each call makes of it.
-use Rattle.std.proofs.Common.{◌≡◌, ℕ, ◌≤◌, true, List, [], ◌∷◌, map, length, refl, sym, ◌∙◌, ap, subst, arith, length-append, Result, Ok, Err, IfOk, OnOk}
+use Rattle.std.proofs.Common.{◌≡◌, ℕ, ◌+◌, ◌≤◌, true, List, [], ◌∷◌, map, take, length, refl, sym, ◌∙◌, ap, subst, arith, length-append, Result, Ok, Err, IfOk, OnOk}
 use Rattle.std.specs.List.{sum_by}
+use Rattle.std.proofs.lemmas.List.{append-nil}
 use Rattle.std.proofs.lemmas.List.Sums.{sum_by-cons}
 use Rattle.mm_subst.specs.declared.symbol.WSym.{WSym}
 use Rattle.mm_subst.specs.Substitutions.{Pairs, applied}
@@ -12,7 +13,7 @@ use Rattle.mm_plain.proofs.Parts.{each-part}
 use Rattle.mm_plain.specs.Valid.{most_steps, most_levels}
 use Rattle.mm_plain.specs.Binding.{bound, HasWorkKeys}
 use Rattle.mm_tree.specs.Lines.{Line}
-use Rattle.mm_tree.specs.Meanings.{mean, means, mean-unknown, mean-known, text_now, unknown_timed, count, youngest}
+use Rattle.mm_tree.specs.Meanings.{mean, means, mean-unknown, mean-known, text_now, unknown_timed, count, tall, youngest}
 use Rattle.mm_tree.specs.Falls.{count-unknown}
 use Rattle.mm_tree.specs.Paths.{IsPut}
 use Rattle.mm_tree.specs.Placed.{unknowns_timed, placed_timed}
@@ -22,7 +23,7 @@ use Rattle.mm_tree.specs.declared.timed.Text.{Text}
 use Rattle.mm_tree.specs.declared.timed.TimedTree.{TimedTree}
 use Rattle.mm_tree.proofs.Shapes.{size_of-mean, height_of-mean, youngest-unknown, youngest-known, tall-unknown}
 use Rattle.mm_tree.proofs.Bindings.{string-new, values-new, mean-bind}
-use Rattle.mm_tree.proofs.Keeping.{with_root, with_binding, hand-more, length-line, line-more, seven}
+use Rattle.mm_tree.proofs.Keeping.{take-all, with_root, with_binding, hand-more, length-line, line-more, sound-at, seven}
 
 -- what holds of a tree as it is seen
 pub record IsFine (s : State) : Type 0 where
@@ -99,23 +100,43 @@ bound-whole v next theta w = record {
   turn = w.turn;
 }
 
--- a tree of one unknown step
-pub begun-whole : (t : Text) → t.birth ≡ 0 → IsWhole (seven (unknown_timed t ∷ []) [] [] [] 0 0 1) 1
-begun-whole t h = record {
+-- a tree with one version
+pub rooted-whole : (x : TimedTree) (line : Line) (n next : ℕ) → n ≡ length line → IsSound x (length line) next → IsWhole (seven (x ∷ []) line [] [] 0 n 1) next
+rooted-whole x line n next e h = record {
   begun_root = omega arith;
-  begun_length = omega arith;
-  sound = record {
-    born = omega (arith, youngest-unknown t, h);
-    few = omega (arith, count-unknown t);
-    low = omega (arith, tall-unknown t);
-    first = omega arith;
-    last = omega arith;
-  };
+  begun_length = omega (arith, e);
+  sound = sound-at x x (n + 0) (length line) next refl (omega (arith, e)) h;
   turn = omega arith;
 }
 
-pub begun-plain : (t : Text) → t.birth ≡ 0 → hand_plain (seven (unknown_timed t ∷ []) [] [] [] 0 0 1) ≡ unknown t.string
-begun-plain t h = mean-unknown t [] ∙ ap unknown (string-new [] t.birth t.string (omega arith))
+pub rooted-plain : (x : TimedTree) (line : Line) (n : ℕ) → n ≡ length line → hand_plain (seven (x ∷ []) line [] [] 0 n 1) ≡ mean x line
+rooted-plain x line n e = ap (mean x) (append-nil (take n line) ∙ take-all n line (omega (arith, e)))
+
+-- that of one unknown step
+pub begun-sound : (t : Text) (x : TimedTree) → t.birth ≡ 0 → x ≡ unknown_timed t → (n : ℕ) → IsSound x n 1
+begun-sound t x h is n = record {
+  born = omega (arith, ap youngest is, youngest-unknown t, h);
+  few = omega (arith, ap count is, count-unknown t);
+  low = omega (arith, ap tall is, tall-unknown t);
+  first = omega arith;
+  last = omega arith;
+}
+
+pub begun-plain : (t : Text) (x : TimedTree) (line : Line) → t.birth ≡ 0 → x ≡ unknown_timed t → line ≡ [] → mean x line ≡ unknown t.string
+begun-plain t x line h is e =
+    ap (λ (l : Line). mean x l) e ∙ ap (λ (y : TimedTree). mean y []) is ∙ mean-unknown t [] ∙ ap unknown (string-new [] t.birth t.string (omega arith))
+
+-- the root of the version in hand
+pub root-sound : (v : Versions) (next : ℕ) (s : State) (x : TimedTree) → state_by v next ≡ s → IsWhole v next → x ≡ hand_node s.versions → IsSound x (length (line_of s.versions true)) s.proof.next
+root-sound v next s x e w is =
+    subst (λ (y : TimedTree). IsSound y (length (line_of s.versions true)) s.proof.next) (sym is)
+    (subst (λ (t : State). IsSound (hand_node t.versions) (length (line_of t.versions true)) t.proof.next) e
+    (subst (λ (n : ℕ). IsSound (hand_node v) n next) (sym (length-line v next w)) w.sound))
+
+pub root-plain : (v : Versions) (next : ℕ) (s : State) (x : TimedTree) → state_by v next ≡ s → x ≡ hand_node s.versions → mean x (line_of s.versions true) ≡ s.proof.plain
+root-plain v next s x e is =
+    ap (λ (y : TimedTree). mean y (line_of s.versions true)) is
+    ∙ subst (λ (t : State). mean (hand_node t.versions) (line_of t.versions true) ≡ t.proof.plain) e refl
 
 -- what holds of an answer, if there is one
 pub if-ok : {X E : Type 0} (r : Result X E) (P Q : X → Type 0) → ((x : X) → P x → Q x) → IfOk r P → IfOk r Q
@@ -136,3 +157,8 @@ fine-low s f = let a = f.whole.sound.low in omega (arith, a, height_of-mean (lin
 pub own-part : (bytes : List ℕ) (x : Plain) (k : ℕ) → 1 ≤ k → k ≤ size_of x → HasOwnLabels bytes x → HasOwnLabels bytes (step_at x k)
 unfolding HasOwnLabels
 own-part bytes x k h g own = each-part (λ y. IsOwnLabel bytes (label_of y)) x k h g own
+
+pub root-young : (v : Versions) (next : ℕ) (s : State) (x : TimedTree) → state_by v next ≡ s → IsWhole v next → x ≡ hand_node s.versions → youngest x ≤ hand_length s.versions
+root-young v next s x e w is =
+    subst (λ (y : TimedTree). youngest y ≤ hand_length s.versions) (sym is)
+    (subst (λ (t : State). youngest (hand_node t.versions) ≤ hand_length t.versions) e w.sound.born)

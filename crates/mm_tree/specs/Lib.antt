@@ -7,3 +7,5 @@ pub mod Versions
 pub mod Trees
 pub mod Placed
 pub mod Bound
+pub mod Written
+pub mod Floats

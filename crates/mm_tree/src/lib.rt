@@ -6,15 +6,19 @@
 #![tactic(auto)]
 
 mod fault;
+mod floats;
+mod graft;
 mod lengths;
 mod line;
 mod node;
+mod occurring;
 mod premises;
 mod sources;
 #[cfg(test)]
 mod tests;
 mod timed;
 mod tree;
+mod writing;
 
 pub use fault::{BindFault, GraftFault, WorkSpent};
 pub use premises::premises as hypotheses;

@@ -1,6 +1,6 @@
 //! The bindings of a version, and what they make of a string.
 
-ghost use Rattle.std.specs.Prelude.{◌≡◌, IfOk, drop};
+ghost use Rattle.std.specs.Prelude.{◌≡◌, ◌++◌, IfOk, OnOk, drop};
 ghost use Rattle.mm_subst.specs.Substitutions.{applied, value_of};
 ghost use Rattle.mm_tree.specs.Lines.{after, string_now};
 
@@ -23,6 +23,28 @@ impl<'a> Model for Line<'a> {
     ghost Value = { List Pairs };
 
     ghost view = { λ l. l.settled.now ++ l.drafts.now };
+}
+
+impl<'a> Line<'a> {
+    /// The same bindings once more.
+    pub fn copy(&self, alloc: Global) -> Result<Vec<Subst>, AllocError>
+        ensures { IfOk result (λ v. v.items ≡ self.now) }
+    {
+        let mut copies = Vec::with_capacity(alloc, self.settled.len() + self.drafts.len())?;
+        append_copies(alloc, self.settled, &mut copies)?;
+        append_copies(alloc, self.drafts, &mut copies)?;
+        Ok(copies)
+    }
+}
+
+/// Appends the same bindings once more.
+fn append_copies(alloc: Global, bindings: &[Subst], into: &mut Vec<Subst>) -> Result<(), AllocError>
+    ensures { OnOk result (into.new.items ≡ into.old.items ++ bindings.now) }
+{
+    for theta in bindings {
+        into.push(theta.copy(alloc)?)?;
+    }
+    Ok(())
 }
 
 /// What stands for a symbol: the value of a key; any other symbol stands for itself.

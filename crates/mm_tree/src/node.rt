@@ -1,13 +1,14 @@
 //! Nodes of proof trees, which versions share.
 
-ghost use Rattle.std.specs.Prelude.{◌≡◌, ◌+◌, ◌<◌, ◌≤◌, ◌^◌, ◌++◌, ◌||◌, ℕ, [], max, map, is_none, None, IfOk, OnOk, MatchOption, length};
+ghost use Rattle.std.specs.Prelude.{◌≡◌, ◌+◌, ◌<◌, ◌≤◌, ◌^◌, ◌++◌, ◌||◌, ℕ, [], max, map, is_none, None, IfOk, OnOk, MatchOption, length, drop};
 ghost use Rattle.std.specs.List.{list_any, last_or, sum_by};
 ghost use Rattle.mm_subst.specs.Symbols.{has_work};
-ghost use Rattle.mm_plain.specs.Shape.{greatest, seat, depth_at, target_of, steps_of, step_at};
+ghost use Rattle.mm_plain.specs.Shape.{greatest, seat, size_of, depth_at, target_of, steps_of, step_at};
 ghost use Rattle.mm_plain.specs.Sources.{label_of, is_pending, sigma_of, source_of};
 ghost use Rattle.mm_subst.specs.Substitutions.{value_at};
 ghost use Rattle.mm_subst.specs.declared.symbol.WSym.TheVariants.{Var};
 ghost use Rattle.mm_plain.specs.Binding.{HasWorkKeys, bound};
+ghost use Rattle.mm_plain.specs.Children.{children_of};
 ghost use Rattle.mm_plain.specs.Lengths.{first_long, is_long_step};
 ghost use Rattle.mm_plain.specs.Numbers.{first_from, labels_in, numbers_from, unknowns_among, HasOwnLabels};
 ghost use Rattle.mm_tree.specs.Lines.{Line};
@@ -37,12 +38,13 @@ pub struct Node {
     levels: u64,
     unknowns: u64,
     live: bool,
-    step: Step,
+    pub step: Step,
 }
 
+/// A step over its children.
 #[cycle(node)]
 #[derive(Drop)]
-enum Step {
+pub enum Step {
     Unknown(Rc<Text>),
     Known(Rc<Text>, u32, Rc<Values>, Vec<Rc<Node>>),
 }
@@ -138,9 +140,9 @@ impl Node {
     }
 
     /// The child that holds a step, and the step's number there; `None` where the step is the node's own.
-    fn child(&self, step: u64) -> Option<(&Node, u64)>
+    pub fn child(&self, step: u64) -> Option<(&Rc<Node>, u64)>
         requires { (1 ≤ step) × (step ≤ count self.now) }
-        ensures { MatchOption result (IsRoot self.now step) (λ c. IsChild self.now c.0.now step c.1) }
+        ensures { MatchOption result (IsRoot self.now step) (λ c. IsChild self.now c.0.now.value step c.1) }
     {
         match &self.step {
             Step::Unknown(_) => None,
@@ -152,6 +154,17 @@ impl Node {
                     None
                 }
             }
+        }
+    }
+
+    /// How many steps there are in the children behind the first ones.
+    pub fn steps_behind(&self, first: usize) -> u64
+        requires { count self.now < 2 ^ 63 }
+        ensures { (line : Line) → result ≡ sum_by size_of (drop first (children_of (mean self.now line))) }
+    {
+        match &self.step {
+            Step::Known(_, _, _, kids) => steps_from(kids, first),
+            Step::Unknown(_) => 0,
         }
     }
 
@@ -391,6 +404,20 @@ fn find(kids: &[Rc<Node>], step: u64) -> (usize, u64)
         at += 1;
     }
     (at, left)
+}
+
+/// How many steps the nodes behind the first ones have.
+fn steps_from(kids: &[Rc<Node>], first: usize) -> u64
+    requires { counts kids.now < 2 ^ 63 }
+    ensures { result ≡ counts (drop first kids.now) }
+{
+    let mut steps = 0;
+    let mut at = first;
+    while at < kids.len() {
+        steps += kids[at].size();
+        at += 1;
+    }
+    steps
 }
 
 /// How many steps a step over these children has.

@@ -1,6 +1,7 @@
 //! Proof trees and their versions.
 
-ghost use Rattle.std.specs.Prelude.{◌≡◌, ◌↔◌, ◌+◌, ◌<◌, ◌≤◌, ◌++◌, ℕ, [], false, true, List, length, vec_len, vec_capacity, All, IfOk, OnOk, OnErr, None, Some, is_none};
+ghost use Rattle.std.specs.Prelude.{◌≡◌, ◌↔◌, ◌+◌, ◌-◌, ◌<◌, ◌≤◌, ◌++◌, ℕ, [], false, true, List, length, drop, get_or, vec_len, vec_capacity, All, IfOk, OnOk, OnErr, None, Some, is_none};
+ghost use Rattle.std.specs.List.{sum_by};
 ghost use Rattle.std.specs.Option.{option_map};
 ghost use Rattle.mm_scope.specs.Contents.{labels_of};
 ghost use Rattle.mm_subst.specs.Statements.{statement_of};
@@ -12,18 +13,22 @@ ghost use Rattle.mm_plain.specs.Premises.{premises_of};
 ghost use Rattle.mm_plain.specs.Shape.{size_of, height_of, unknown, step_at, depth_at, target_of, put};
 ghost use Rattle.mm_plain.specs.Sources.{is_pending, label_of, sigma_of, source_of};
 ghost use Rattle.mm_plain.specs.Numbers.{labels_in, unknowns_among, last_unknown_of, pending_in, HasOwnLabels};
+ghost use Rattle.mm_plain.specs.declared.plain.Plain.{Plain};
+ghost use Rattle.mm_plain.specs.Children.{children_of};
 ghost use Rattle.mm_plain.specs.Binding.{HasWorkKeys, IsBinding, bound, bound_in};
 ghost use Rattle.mm_plain.specs.Grafts.{cleared_in, grafted_in};
 ghost use Rattle.mm_plain.specs.Lengths.{first_long};
+ghost use Rattle.mm_plain.specs.Occurring.{occurs_in};
 ghost use Rattle.mm_plain.specs.Valid.{Fits, IsString, IsValid, first_setting, placed_in, setting_of};
 ghost use Rattle.mm_tree.specs.Bound.{IsBound};
 ghost use Rattle.mm_tree.specs.Meanings.{mean, count, tall, youngest, text_now};
 ghost use Rattle.mm_tree.specs.Placed.{HasRoom, IsDrawn, IsPlaced};
-ghost use Rattle.mm_tree.specs.Versions.{BeginsAlike, HasNoDrafts, is_draft, IsAlive, KeepsMarks, KeepsOlder, KeepsUpTo, StandsAt, hand_length, hand_node, hand_root, line_of, named};
+ghost use Rattle.mm_tree.specs.Versions.{BeginsAlike, HasNoDrafts, IsSound, is_draft, IsAlive, KeepsMarks, KeepsOlder, KeepsUpTo, StandsAt, hand_length, hand_node, hand_root, line_of, named};
 
 use crate::fault::{BindFault, GraftFault, WorkSpent};
 use crate::line::Line;
 use crate::node::{Node, put};
+use crate::occurring::occurs_in;
 use crate::premises::{known_over, levels_over, premises, text, unknown_node};
 use crate::timed::Text;
 use mm_base::Steps;
@@ -161,6 +166,18 @@ impl Tree {
         }
     }
 
+    /// The number of a child of a step, by its place among the children, counted from 1.
+    pub fn child(&self, step: u32, j: u32) -> u32
+        requires exists { (1 ≤ step) × (step ≤ size_of self.now.proof.plain) }
+        requires child { (1 ≤ j) × (j ≤ length (children_of (step_at self.now.proof.plain step))) }
+        ensures number { result + sum_by size_of (drop j (children_of (step_at self.now.proof.plain step))) + 1 ≡ step }
+        ensures exists { (1 ≤ result) × (result ≤ size_of self.now.proof.plain) }
+        ensures child { (d : Plain) → step_at self.now.proof.plain result ≡ get_or (children_of (step_at self.now.proof.plain step)) (j - 1) d }
+    {
+        let behind = self.hand().at(u64::from(step)).steps_behind(j as usize);
+        step - 1 - behind as u32
+    }
+
     /// The string that a step proves.
     pub fn target(&self, alloc: Global, step: u32) -> Result<WStr, AllocError>
         requires { (1 ≤ step) × (step ≤ size_of self.now.proof.plain) }
@@ -245,6 +262,13 @@ impl Tree {
             Some(value) => Ok(value),
             None => unreachable!(),
         }
+    }
+
+    /// Whether the string of some step, or a value of its substitution, has the work variable with a number.
+    pub fn occurs(&self, alloc: Global, number: u32) -> Result<bool, AllocError>
+        ensures { IfOk result (λ b. b ≡ occurs_in number self.now.proof.plain) }
+    {
+        occurs_in(alloc, &self.line(), self.hand(), number)
     }
 
     /// Draws work variables: raises the counter, and answers the first number.
@@ -449,13 +473,12 @@ impl Tree {
         self.next = m.next;
     }
 
-    /// The root of the version in hand.
-    fn hand(&self) -> &Node
-        ensures node { result.now ≡ hand_node self.now.versions }
-        ensures plain { mean result.now (line_of self.now.versions true) ≡ self.now.proof.plain }
-        ensures few { count result.now ≤ 1000000 }
-        ensures low { tall result.now ≤ 2000 }
-        ensures born { youngest result.now ≤ hand_length self.now.versions }
+    /// The root of the version in hand, which may be shared.
+    pub(crate) fn root(&self) -> &Rc<Node>
+        ensures node { result.now.value ≡ hand_node self.now.versions }
+        ensures plain { mean result.now.value (line_of self.now.versions true) ≡ self.now.proof.plain }
+        ensures sound { IsSound result.now.value (length (line_of self.now.versions true)) self.now.proof.next }
+        ensures born { youngest result.now.value ≤ hand_length self.now.versions }
     {
         match self.draft_roots.last() {
             Some(root) => root,
@@ -463,8 +486,19 @@ impl Tree {
         }
     }
 
+    /// The root of the version in hand.
+    pub(crate) fn hand(&self) -> &Node
+        ensures node { result.now ≡ hand_node self.now.versions }
+        ensures plain { mean result.now (line_of self.now.versions true) ≡ self.now.proof.plain }
+        ensures few { count result.now ≤ 1000000 }
+        ensures low { tall result.now ≤ 2000 }
+        ensures born { youngest result.now ≤ hand_length self.now.versions }
+    {
+        self.root()
+    }
+
     /// The bindings of the version in hand.
-    fn line(&self) -> Line<'_>
+    pub(crate) fn line(&self) -> Line<'_>
         ensures { result ≡ line_of self.now.versions true }
     {
         Line {
@@ -474,7 +508,7 @@ impl Tree {
     }
 
     /// How many bindings the version in hand has.
-    fn length(&self) -> usize
+    pub(crate) fn length(&self) -> usize
         ensures hand { result ≡ hand_length self.now.versions }
         ensures line { length (line_of self.now.versions true) ≡ result }
     {
@@ -532,7 +566,7 @@ impl Tree {
     }
 
     /// Puts a node in place of a step, as a draft.
-    fn replace_step<L: Ledger>(
+    pub(crate) fn replace_step<L: Ledger>(
         &mut self,
         alloc: Global,
         step: u32,
@@ -577,6 +611,32 @@ fn move_all<T>(to: &mut Vec<T>, from: &mut Vec<T>)
     }
 }
 
+/// The tree with this root and these bindings, without drafts.
+pub(crate) fn rooted(
+    alloc: Global,
+    root: Rc<Node>,
+    trail: Vec<Subst>,
+    next: u32,
+) -> Result<Tree, AllocError>
+    requires { IsSound root.value (length trail.items) next }
+    ensures proof { IfOk result (λ t. t.proof ≡ record { plain = mean root.value trail.items; next = next }) }
+    ensures settled { IfOk result (λ t. HasNoDrafts t.versions) }
+{
+    let mut roots = Vec::new(alloc);
+    roots.push(root)?;
+    let begun_length = trail.len();
+    Ok(Tree {
+        roots,
+        trail,
+        draft_roots: Vec::new(alloc),
+        draft_bindings: Vec::new(alloc),
+        begun_root: 0,
+        begun_length,
+        turn: 1,
+        next,
+    })
+}
+
 /// The tree of one unknown step.
 fn begin<L: Ledger>(alloc: Global, target: WStr, steps: &mut Steps<L>) -> Result<Tree, AllocError>
     ensures start { IfOk result (λ t. t.proof ≡ record { plain = unknown target; next = 1 }) }
@@ -585,18 +645,7 @@ fn begin<L: Ledger>(alloc: Global, target: WStr, steps: &mut Steps<L>) -> Result
 {
     let target = text(alloc, 0, target)?;
     let root = unknown_node(alloc, target, steps)?;
-    let mut roots = Vec::new(alloc);
-    roots.push(root)?;
-    Ok(Tree {
-        roots,
-        trail: Vec::new(alloc),
-        draft_roots: Vec::new(alloc),
-        draft_bindings: Vec::new(alloc),
-        begun_root: 0,
-        begun_length: 0,
-        turn: 1,
-        next: 1,
-    })
+    rooted(alloc, root, Vec::new(alloc), 1)
 }
 
 /// The tree of one unknown step, counted in a ledger of its own.

@@ -10,6 +10,47 @@ use mm_tree::{Mark, Tree};
 use std::alloc::{AllocError, Global};
 use std::marker::Model;
 
+/// Empty rings for a history, whose memory is taken before they are needed. They are seen as the depth of that history.
+#[derive(Drop)]
+pub struct Rings {
+    past: HeapCircularBuffer<Mark>,
+    future: HeapCircularBuffer<Mark>,
+    depth: u32,
+}
+
+impl Model for Rings {
+    ghost use Rattle.std.specs.Prelude.{◌≡◌, ℕ, []};
+    ghost use Rattle.circular_buffer.specs.Buffer.{buffer};
+
+    ghost Value = { ℕ };
+
+    ghost view = { λ r. r.depth };
+
+    ghost invariant = { λ r. (r.past ≡ buffer [] r.depth) × (r.future ≡ buffer [] r.depth) };
+}
+
+impl Rings {
+    /// Rings for a history that keeps so many versions.
+    pub fn new(alloc: Global, depth: u32) -> Result<Rings, AllocError>
+        ensures { IfOk result (λ rings. rings ≡ depth) }
+    {
+        let past = HeapCircularBuffer::with_capacity(alloc, depth as usize)?;
+        let future = HeapCircularBuffer::with_capacity(alloc, depth as usize)?;
+        Ok(Rings {
+            past,
+            future,
+            depth,
+        })
+    }
+
+    /// The depth of that history.
+    pub fn depth(&self) -> u32
+        ensures { result ≡ self.now }
+    {
+        self.depth
+    }
+}
+
 /// The versions of a proof before its edits, the oldest first, and those that were undone, the one undone last first; and how
 /// many are kept. Both stand in rings whose room is taken by `new` and `set_depth`, so no other call takes memory.
 ///
@@ -141,14 +182,26 @@ impl History {
         ensures err { OnErr result (self.new ≡ self.old) }
         ensures held { (v : Versions) → IsHistoryOf v self.old → IsHistoryOf v self.new }
     {
-        let mut past = HeapCircularBuffer::with_capacity(alloc, n as usize)?;
-        let future = HeapCircularBuffer::with_capacity(alloc, n as usize)?;
+        let rings = Rings::new(alloc, n)?;
+        self.move_to(rings);
+        Ok(())
+    }
+
+    /// Moves into other rings: the newest versions of the past that they hold stay, and nothing is left to redo.
+    pub fn move_to(&mut self, rings: Rings)
+        ensures moved { self.new ≡ record { past = keep_last rings self.old.past; future = []; depth = rings } }
+        ensures held { (v : Versions) → IsHistoryOf v self.old → IsHistoryOf v self.new }
+    {
+        let Rings {
+            mut past,
+            future,
+            depth,
+        } = rings;
         let (front, back) = self.past.as_slices();
         past.extend_from_slice(front);
         past.extend_from_slice(back);
         self.past = past;
         self.future = future;
-        self.depth = n;
-        Ok(())
+        self.depth = depth;
     }
 }

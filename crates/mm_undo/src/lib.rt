@@ -4,6 +4,6 @@
 mod history;
 mod laws;
 
-pub use history::History;
+pub use history::{History, Rings};
 pub use laws::{edits_keep_histories, redos_lead_forward, undos_lead_back};
 pub use std::alloc::AllocError as Memory;

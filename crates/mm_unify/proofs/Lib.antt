@@ -26,3 +26,7 @@ pub mod Visiting
 pub mod Searching
 pub mod Apart
 pub mod Ordered
+pub mod Ending
+pub mod Sorted
+pub mod Matched
+pub mod Listed

@@ -70,7 +70,7 @@ pub answer_complete : (o : Option Brackets) (trials : Option ℕ) (a b : List WS
 answer_complete o trials a b off whole theta u = complete (forbidden_by o) (off_by o off) theta a b (limit trials a b) whole u
 
 -- a listed substitution is the restricted one
-same_restricted : (theta u : Pairs) (ms : List ℕ) → keys u ≡ map Work ms → Rising ms → SameOn theta ms u → u ≡ restricted theta ms
+pub same_restricted : (theta u : Pairs) (ms : List ℕ) → keys u ≡ map Work ms → Rising ms → SameOn theta ms u → u ≡ restricted theta ms
 same_restricted theta [] [] e r h = refl
 same_restricted theta [] (m ∷ ms) e r h = cc
 same_restricted theta (q ∷ u) [] e r h = cc

@@ -8,3 +8,4 @@ pub mod Parts
 pub mod Frames
 pub mod Laws
 pub mod Ordering
+pub mod Matching

@@ -2,6 +2,7 @@
 
 ghost use Rattle.mm_unify.specs.Laws.{FindsValue, MoreChangeNothing, HasNoSides};
 ghost use Rattle.mm_unify.specs.Ordering.{ListsInOrder};
+ghost use Rattle.mm_unify.specs.Matching.{ListsMatches};
 
 /// A typecode and a work variable against the typecode and a value without work variables: that value alone is found, in
 /// one trial and two for each of its symbols, whichever of the two is on the left.
@@ -25,4 +26,11 @@ pub fn sides_do_not_matter()
 /// the strings are, and how the search ended.
 pub fn unifiers_are_in_order()
     ensures { ListsInOrder }
+{}
+
+/// The unifiers of a string without work variables, on the left, and one that begins with a symbol that is none either:
+/// the search ends as Whole where the first string is not too long, and the list is that of the matches, which takes for
+/// each work variable, the leftmost first, each front of what is left of the string, the shortest first.
+pub fn unifiers_are_matches()
+    ensures { ListsMatches }
 {}

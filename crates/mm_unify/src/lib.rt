@@ -16,5 +16,6 @@ mod waiting;
 
 pub use laws::{
     more_trials_change_nothing, one_value_is_found, sides_do_not_matter, unifiers_are_in_order,
+    unifiers_are_matches,
 };
 pub use listing::{Ended, Listing, Rule, Settings, unifiers};

@@ -4,16 +4,19 @@
 mod arguments;
 mod files;
 mod input;
+mod log;
 mod screen;
 #[cfg(test)]
 mod tests;
 
-ghost use Rattle.std.specs.Prelude.{◌≡◌, ◌<◌};
+ghost use Rattle.std.specs.Prelude.{◌≡◌, ◌<◌, false};
+ghost use Rattle.mm_session.specs.Hearing.{AreReady};
 
 use arguments::{Arguments, read_arguments};
 use files::RealFiles;
 use input::RealInput;
-use mm_base::{Files, Sink, Source, Steps};
+use log::LogFile;
+use mm_base::{Files, Recorder, Recorders, Sink, Source, Steps};
 use mm_session::{Word, run_session};
 use screen::Screen;
 use std::alloc::Global;
@@ -33,14 +36,24 @@ Then the lines of the input are commands, up to EXIT or its end.
 ";
 
 /// Each command that is built, and what it does.
-const COMMANDS: [&str; 7] = [
-    "READ FILE                      reads a database",
-    "VERIFY PROOF PATTERN           verifies the proofs of theorems",
-    "WRITE SOURCE FILE              writes the database",
-    "PROVE LABEL [/OVERRIDE]        takes a proof in hand that is ? alone",
-    "ASSIGN LAST LABEL [/OVERRIDE]  makes its last unknown step known, by a statement",
-    "SAVE NEW_PROOF [/OVERRIDE]     saves the proof into the database",
-    "EXIT [/FORCE], QUIT [/FORCE]   leaves the proof in hand, or ends the session",
+const COMMANDS: [&str; 17] = [
+    "READ FILE                        reads a database",
+    "VERIFY PROOF PATTERN             verifies the proofs of theorems",
+    "SHOW TRACE_BACK LABEL [/AXIOMS]  lists what a statement depends on",
+    "SHOW USAGE LABEL [/RECURSIVE]    lists what uses a statement, or depends on it",
+    "WRITE SOURCE FILE                writes the database",
+    "SET UNDO N                       keeps N edits to undo, from 0 to 1000",
+    "SET UNIFICATION_TIMEOUT N        sets the trials of a search for unifiers",
+    "SET BRACKETS ON, OFF             whether unifiers keep brackets in pairs",
+    "SET EMPTY_SUBSTITUTION OFF       work variables stand for no empty text",
+    "OPEN LOG FILE                    keeps what is printed from here on in the file too",
+    "CLOSE LOG                        ends the log",
+    "PROVE LABEL [/OVERRIDE]          takes a proof in hand that is ? alone",
+    "ASSIGN LAST LABEL [/OVERRIDE]    makes its last unknown step known, by a statement",
+    "UNDO                             takes the last edit back",
+    "REDO                             does it again",
+    "SAVE NEW_PROOF [/OVERRIDE]       saves the proof into the database",
+    "EXIT [/FORCE], QUIT [/FORCE]     leaves the proof in hand, or ends the session",
 ];
 
 const STATUSES: &str = "
@@ -54,6 +67,9 @@ const VERSION: &str = "mmpa 0.1.0\n";
 
 /// The status where memory runs out before the session.
 const OUT_OF_MEMORY: u8 = 5;
+
+/// What is said where the log was lost.
+const LOG_LOST: &str = "mmpa: log lost";
 
 /// The status where the screen fails.
 const SCREEN_FAILED: u8 = 4;
@@ -70,14 +86,31 @@ fn main(rt: HostRuntime) -> ExitCode {
             let mut files = RealFiles::new(&rt);
             let mut input = RealInput::new(rt.reader());
             let mut screen = Screen::new(&rt);
-            run::<Brand, _, _, _>(
+            let Ok(system) = rt.clone() else {
+                return ExitCode::from(OUT_OF_MEMORY);
+            };
+            let Ok(log) = Box::new(rt.alloc(), LogFile::new(system)) else {
+                return ExitCode::from(OUT_OF_MEMORY);
+            };
+            let Ok(live) = Vec::from_array(rt.alloc(), [log as Box<dyn Recorder>]) else {
+                return ExitCode::from(OUT_OF_MEMORY);
+            };
+            let Ok(mut recorders) = Recorders::new(rt.alloc(), live) else {
+                return ExitCode::from(OUT_OF_MEMORY);
+            };
+            let status = run::<Brand, _, _, _>(
                 rt.alloc(),
                 &words,
                 &mut files,
                 &mut input,
                 &mut screen,
+                &mut recorders,
                 Blank::new(1),
-            )
+            );
+            if !recorders.lost.is_empty() {
+                let _ = rt.eprintln(LOG_LOST);
+            }
+            status
         }
     }
 }
@@ -89,14 +122,17 @@ fn run<L: Ledger, F: Files, S: Source, K: Sink>(
     files: &mut F,
     input: &mut S,
     screen: &mut K,
+    recorders: &mut Recorders,
     blank: Blank,
 ) -> ExitCode
+    requires closed { recorders.old.begun ≡ false }
+    requires ready { AreReady ⟦<dyn Recorder as Recorder>⟧ recorders.old }
     requires name { blank.name ≡ L.name }
     requires parts { blank.parts ≡ L.parts }
     requires some { 0 < L.parts }
 {
     let mut steps = Steps::<L>::new(blank);
-    let end = run_session(alloc, words, files, input, screen, &mut steps);
+    let end = run_session(alloc, words, files, input, screen, recorders, &mut steps);
     ExitCode::from(end.status)
 }
 

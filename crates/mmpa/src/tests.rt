@@ -2,8 +2,9 @@
 
 use crate::files::RealFiles;
 use crate::input::RealInput;
+use crate::log::LogFile;
 use crate::screen::Screen;
-use mm_base::{Failed, Files, FilesFault, ShortWrite, Source, is_name, write_all};
+use mm_base::{Failed, Files, FilesFault, Recorder, ShortWrite, Source, is_name, write_all};
 use std::fmt::Display;
 use std::fs;
 use std::io::{self, ErrorKind, Read};
@@ -126,5 +127,27 @@ fn an_input_counts_its_faults(rt: HostRuntime) -> Result<(), Fail> {
     let mut input = RealInput::new(Broken {});
     assert_eq!(rt; input.read(&mut buf), Err(Failed));
     assert_eq!(rt; input.faults(), 1);
+    Ok(())
+}
+
+#[test]
+fn a_log_is_kept_in_its_file(rt: HostRuntime) -> Result<(), Fail> {
+    fs::write(&rt, "a.log", "an older and longer text")?;
+    fs::create_dir(&rt, "log-folder")?;
+    let mut log = LogFile::new(rt.clone()?);
+    if log.begin(b"log-folder").is_ok() {
+        return Err(Fail::from("a folder is no log"));
+    }
+    assert_eq!(rt; log.faults(), 1);
+    if log.begin(b"a.log").is_err() {
+        return Err(Fail::from("no log"));
+    }
+    assert_eq!(rt; log.hear(b"first\n"), Ok(()));
+    assert_eq!(rt; log.hear(b"second\n"), Ok(()));
+    assert_eq!(rt; log.finish(), Ok(()));
+    assert_eq!(rt; log.faults(), 1);
+    assert!(rt; log.heard(1).is_none());
+    let kept = fs::read_to_string(&rt, "a.log")?;
+    assert_eq!(rt; kept.as_str(), "first\nsecond\n");
     Ok(())
 }

@@ -1,6 +1,6 @@
 use Rattle.mm_edit_commands.specs.Edits.{edit_of}
 use Rattle.mm_edit_commands.proofs.edits.edit_tree.Goals as goal
 
-pub returns-in-Assign : goal.returns-in-Assign
+pub returns-in-Assign-clause-edited : goal.returns-in-Assign-clause-edited
 unfolding edit_of
-returns-in-Assign g c = rw c.in-Assign.is c.assign.ensures
+returns-in-Assign-clause-edited g c = rw c.in-Assign.is c.assign.ensures.edited

@@ -6,7 +6,7 @@ use Rattle.mm_stack.proofs.differing.violation.Goals as goal
 
 pub returns-in-Some : goal.returns-in-Some
 returns-in-Some c =
-    let value = value_in c.args.values.now c.args.stack.now in
+    let value = value_in c.args.values.now c.args.stack.now.stack in
     let same = c.pair.view_is ∙ c.pair-item.is in
     stops (λ p. faults_between c.args.db.now c.args.parted.now c.args.number (value p.0) (value p.1)) c.args.pairs.now c.loop-pair.pair-index _ c.in-Some.fault (omega arith)
     (sym c.in-Some.is ∙ c.fault_between.ensures
@@ -15,7 +15,7 @@ returns-in-Some c =
 
 pub loop-pair-preserved : goal.loop-pair-preserved
 loop-pair-preserved c =
-    let value = value_in c.args.values.now c.args.stack.now in
+    let value = value_in c.args.values.now c.args.stack.now.stack in
     let same = c.pair.view_is ∙ c.pair-item.is in
     goes_on (λ p. faults_between c.args.db.now c.args.parted.now c.args.number (value p.0) (value p.1)) c.args.pairs.now c.loop-pair.pair-index _ (omega arith)
     (sym c.in_default.is ∙ c.fault_between.ensures

@@ -5,5 +5,5 @@ use Rattle.mm_stack.proofs.differing.violation.Given as goal
 
 abbrev pub invariant-loop-pair : goal.invariant-loop-pair
 invariant-loop-pair l =
-    slice_get (violations l.db l.parted l.number (value_in l.values l.stack) (drop l.pair-index l.pairs)) 0
-    ≡ slice_get (violations l.db l.parted l.number (value_in l.values l.stack) l.pairs) 0
+    slice_get (violations l.db l.parted l.number (value_in l.values l.stack.stack) (drop l.pair-index l.pairs)) 0
+    ≡ slice_get (violations l.db l.parted l.number (value_in l.values l.stack.stack) l.pairs) 0

@@ -6,6 +6,6 @@ use Rattle.mm_scope.specs.Steps.{most_symbols}
 
 abbrev pub invariant-loop-symbol : goal.invariant-loop-symbol
 invariant-loop-symbol l = record {
-  so_far : l.out.items ≡ instance (value_in l.values l.stack) (take l.symbol-index l.symbols);
+  so_far : l.out.items ≡ instance (value_in l.values l.stack.stack) (take l.symbol-index l.symbols);
   fits : length l.out.items ≤ most_symbols;
 }

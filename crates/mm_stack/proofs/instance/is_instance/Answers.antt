@@ -7,7 +7,7 @@ use Rattle.mm_stack.proofs.instance.is_instance.Goals as goal
 
 pub returns-in-None : goal.returns-in-None
 returns-in-None c =
-    let value = value_in c.args.values.now c.args.stack.now in
+    let value = value_in c.args.values.now c.args.stack.now.stack in
     let symbols = c.args.symbols.now in
     let i = c.loop-symbol.symbol-index in
     let rest = c.loop-symbol.rest.now in
@@ -17,7 +17,7 @@ returns-in-None c =
 
 pub loop-symbol-preserved : goal.loop-symbol-preserved
 loop-symbol-preserved c =
-    let value = value_in c.args.values.now c.args.stack.now in
+    let value = value_in c.args.values.now c.args.stack.now.stack in
     let symbols = c.args.symbols.now in
     let i = c.loop-symbol.symbol-index in
     let rest = c.loop-symbol.rest.now in

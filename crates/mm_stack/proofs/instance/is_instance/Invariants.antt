@@ -6,5 +6,5 @@ use Rattle.mm_stack.proofs.instance.is_instance.Given as goal
 
 abbrev pub invariant-loop-symbol : goal.invariant-loop-symbol
 invariant-loop-symbol l =
-    bytes_eq (instance (value_in l.values l.stack) (drop l.symbol-index l.symbols)) l.rest
-    ≡ bytes_eq (instance (value_in l.values l.stack) l.symbols) l.entry
+    bytes_eq (instance (value_in l.values l.stack.stack) (drop l.symbol-index l.symbols)) l.rest
+    ≡ bytes_eq (instance (value_in l.values l.stack.stack) l.symbols) l.entry

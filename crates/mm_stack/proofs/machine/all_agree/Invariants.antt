@@ -7,8 +7,8 @@ use Rattle.mm_stack.proofs.machine.all_agree.Given as goal
 abbrev pub invariant-loop-left : goal.invariant-loop-left
 invariant-loop-left l = record {
   fits : l.left ≤ length l.mandatory;
-  place : l.number + length l.mandatory ≡ length l.stack + l.left;
-  so_far : list_all (is_instance (value_in l.values l.stack)) (drop l.left (arguments l.db l.mandatory (drop (length l.stack - length l.mandatory) l.stack))) ≡ true;
+  place : l.number + length l.mandatory ≡ length l.stack.stack + l.left;
+  so_far : list_all (is_instance (value_in l.values l.stack.stack)) (drop l.left (arguments l.db l.mandatory (drop (length l.stack.stack - length l.mandatory) l.stack.stack))) ≡ true;
 }
 
 abbrev pub decreases-loop-left : goal.decreases-loop-left

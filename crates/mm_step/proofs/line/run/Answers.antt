@@ -1,10 +1,10 @@
-use Rattle.std.proofs.Common.{sym, ◌∙◌, Err, refl}
+use Rattle.std.proofs.Common.{sym, ◌∙◌, refl}
 use Rattle.mm_command.specs.Meanings.{meaning_of}
-use Rattle.mm_shell.specs.declared.refusal.Refusal.TheVariants.{NotBuilt}
+use Rattle.mm_setting_commands.specs.Commands.{setting_answer}
 use Rattle.mm_edit_commands.specs.Edits.{edit_answer}
 use Rattle.mm_proof_commands.specs.Commands.{proof_answer}
 use Rattle.mm_step.specs.declared.group.Group.TheVariants as group
-use Rattle.mm_step.proofs.ReplyLemmas.{counts_still, refused_replies, refusal_sound, reply_sound}
+use Rattle.mm_step.proofs.ReplyLemmas.{counts_still, reply_sound}
 use Rattle.mm_step.proofs.RunLemmas.{runs_apart, runs_group}
 use Rattle.mm_step.proofs.line.run.Goals as goal
 
@@ -15,9 +15,9 @@ returns-in-Database-clause-effect g c =
 pub returns-in-Settings : goal.returns-in-Settings
 returns-in-Settings g c = record {
   effect = runs_group g.F.Files group.Settings (meaning_of c.args.command) c.args.state.now c.args.files.now c.args.files.now _ _ (sym c.in-Settings.is ∙ c.group_of.ensures)
-      (runs_apart g.F.Files _ (Err NotBuilt) c.args.state.now c.args.files.now _ _ refl (refused_replies NotBuilt c.refuse.result (λ e. cc) c.refuse.ensures c.args.state.now));
+      (runs_apart g.F.Files _ (setting_answer (meaning_of c.args.command) c.args.state.now) c.args.state.now c.args.files.now _ _ refl c.run_setting.ensures);
   told = λ t. t;
-  cause = rw (refusal_sound NotBuilt c.refuse.result c.refuse.ensures) (counts_still _);
+  cause = rw (reply_sound (setting_answer (meaning_of c.args.command) c.args.state.now) c.args.state.now _ c.run_setting.result c.run_setting.ensures) (counts_still _);
 }
 
 pub returns-in-Edits : goal.returns-in-Edits

@@ -1,8 +1,5 @@
-use Rattle.mm_stack.proofs.Cuts.{entries-take, cut-take}
+use Rattle.mm_stack.proofs.Parts.{entries_taken}
 use Rattle.mm_stack.proofs.stack.Stack.truncate.Goals as goal
 
-pub invariant_of-self : goal.invariant_of-self
-invariant_of-self c = rw c.truncate.ensures.items (cut-take _ _ _ c.args.count c.self.invariant)
-
-pub returns : goal.returns
-returns c = rw (c.truncate.ensures.items, ← c.self.view_is) (entries-take _ _ _ c.args.count)
+pub returns-clause-stack : goal.returns-clause-stack
+returns-clause-stack c = rw (c.truncate.ensures.items, ← c.self.view_is) (entries_taken _ c.args.count _)

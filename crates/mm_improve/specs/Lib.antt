@@ -1,0 +1,6 @@
+pub mod Options
+pub mod Assertions
+pub mod Ranks
+pub mod Items
+pub mod Charts
+pub mod Grammars

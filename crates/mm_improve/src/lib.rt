@@ -1,0 +1,15 @@
+//! The chosen proof of a goal: by an active hypothesis, or by the plain assertions that were stated before.
+#![tactic(auto)]
+
+mod filling;
+mod fitting;
+mod grammar;
+mod laws;
+mod reach;
+mod search;
+mod table;
+
+pub use filling::{chart, chosen_proof};
+pub use grammar::{Hypothesis, Item, Pattern, Rules};
+pub use laws::answers_agree;
+pub use table::{Entry, Part, Rows};

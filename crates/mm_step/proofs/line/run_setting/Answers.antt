@@ -1,0 +1,11 @@
+use Rattle.std.proofs.Common.{subst, sym}
+use Rattle.mm_command.specs.Meanings.{meaning_of}
+use Rattle.mm_setting_commands.specs.Commands.{setting_answer}
+use Rattle.mm_step.proofs.ReplyLemmas.{answer_changed}
+use Rattle.mm_step.proofs.line.run_setting.Goals as goal
+
+pub returns-in-Err : goal.returns-in-Err
+returns-in-Err c = c.in-Err.ensures c.args.state.now
+
+pub returns-in-Ok : goal.returns-in-Ok
+returns-in-Ok c = answer_changed (setting_answer (meaning_of c.args.command) c.args.state.now) c.args.state.now _ _ _ (c.in-Ok.ensures c.args.state.now) c.apply_change.ensures

@@ -1,0 +1,11 @@
+use Rattle.std.proofs.Common.{subst}
+use Rattle.mm_command.specs.Meanings.{meaning_of}
+use Rattle.mm_setting_commands.specs.Commands.{setting_answer}
+use Rattle.mm_step.proofs.ReplyLemmas.{answer_told, refusal_told}
+use Rattle.mm_step.proofs.line.tell_setting.Goals as goal
+
+pub returns-in-Err : goal.returns-in-Err
+returns-in-Err c = refusal_told (setting_answer (meaning_of c.args.command) c.args.state.now) c.in-Err.refusal c.refuse.result c.in-Err.ensures c.refuse.ensures
+
+pub returns-in-Ok : goal.returns-in-Ok
+returns-in-Ok c = answer_told (setting_answer (meaning_of c.args.command) c.args.state.now) c.in-Ok.done c.tell.result c.in-Ok.ensures c.tell.ensures

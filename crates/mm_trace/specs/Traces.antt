@@ -1,0 +1,23 @@
+-- The uses of all statements of a database, as a trace keeps them.
+use Rattle.std.specs.Prelude.{◌==◌, ℕ, Bool, List, [], ◌∷◌, length, map, slice_index_or}
+use Rattle.std.specs.List.{list_any, range_with_len}
+use Rattle.mm_scope.specs.Contents.{labels_of}
+use Rattle.mm_tables.specs.Marked.{with_number}
+use Rattle.mm_trace.specs.Uses.{applied}
+
+-- numbers, each once, where they come first, behind those that are there
+unfoldable pub once_behind : List ℕ → List ℕ → List ℕ
+once_behind ns [] = ns
+once_behind ns (m ∷ ms) = once_behind (with_number ns m) ms
+
+-- the assertions that a statement uses, each once
+unfoldable pub used : List ℕ → ℕ → List ℕ
+used bytes id = once_behind [] (applied bytes id)
+
+-- those of each statement of a database, in order
+unfoldable pub trace_of : List ℕ → List (List ℕ)
+trace_of bytes = map (used bytes) (range_with_len 0 (length (labels_of bytes)))
+
+-- whether a statement uses an assertion, by a trace
+abbrev pub uses_in : List (List ℕ) → ℕ → ℕ → Bool
+uses_in trace id on = list_any (λ m. m == on) (slice_index_or trace id [])
