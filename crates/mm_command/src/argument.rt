@@ -2,6 +2,7 @@
 
 ghost use Rattle.std.specs.Prelude.{◌≡◌, ◌≤◌, IfOk, IfSome, IfNone, Ok};
 ghost use Rattle.mm_command.specs.Words.{piece_of};
+ghost use Rattle.mm_command.specs.Limits.{most_work};
 ghost use Rattle.mm_command.specs.Grammar.{Label, File, Text, EqualsSign, WorkVariable, OnOrOff, OffAlone, Number, Bytes, TextAt, EqualsGiven, Numbered, number_at, variable_at, fault, value_at};
 ghost use Rattle.mm_command.specs.Taking.{HasRoom, Takes, Gives};
 ghost use Rattle.mm_command.specs.Spelled.{switch_value};
@@ -80,7 +81,7 @@ pub fn take_number(words: Words<'_>, low: u32, high: u32) -> Result<(u32, Words<
 
 /// Takes the `$n` of a work variable, and answers n.
 #[tactic(auto, unfolding(crate::specs::Grammar::take_one, crate::specs::Grammar::value_at))]
-pub fn take_variable(words: Words<'_>) -> Result<(u64, Words<'_>), LineFault>
+pub fn take_variable(words: Words<'_>) -> Result<(u32, Words<'_>), LineFault>
     requires { HasRoom words }
     ensures { Takes (λ n. Numbered n) (value_at WorkVariable) words.entry result }
 {
@@ -88,7 +89,7 @@ pub fn take_variable(words: Words<'_>) -> Result<(u64, Words<'_>), LineFault>
         return Err(wrong(words.number));
     };
     match judge_variable(bytes, words.number) {
-        Ok(number) => Ok((number, rest)),
+        Ok(number) => Ok((number as u32, rest)),
         Err(fault) => Err(fault),
     }
 }
@@ -138,7 +139,8 @@ fn judge_number(bytes: &[u8], word: u32, low: u64, high: u64) -> Result<u64, Lin
 }
 
 fn judge_variable(bytes: &[u8], word: u32) -> Result<u64, LineFault>
-    ensures { Gives (λ n. Numbered n) result (variable_at word bytes.now) }
+    ensures is { Gives (λ n. Numbered n) result (variable_at word bytes.now) }
+    ensures within { IfOk result (λ n. n ≤ most_work) }
 {
     match bytes {
         [b'$', digits @ ..] => {

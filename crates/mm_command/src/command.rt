@@ -106,7 +106,7 @@ pub enum Command<'a> {
     /// LET VARIABLE $n = text: the work variable's number, from 1 to 4,000,000,000; the text, which may be empty, and the
     /// number of its word.
     LetVariable {
-        number: u64,
+        number: u32,
         text: &'a [u8],
         word: u32,
     },

@@ -9,16 +9,21 @@ ghost use Rattle.mm_scope.specs.Contents.{labels_of};
 ghost use Rattle.mm_shell.specs.Sound.{IsOpenIn, IsProofOf, IsSound};
 ghost use Rattle.mm_tree.specs.Versions.{BeginsAlike, HasNoDrafts};
 ghost use Rattle.mm_undo.specs.Histories.{IsHistoryOf, IsMarkOfBeginning, KeepsSettled};
-ghost use Rattle.mm_edit_commands.specs.Edits.{EditsProof, EditsState, EditsTree, edit_answer, edit_in, edit_of, is_built, is_last};
+ghost use Rattle.mm_edit_commands.specs.Edits.{EditsProof, EditsState, EditsTree, edit_answer, edit_in, edit_of, is_built};
 ghost use Rattle.mm_edit_commands.specs.Ending.{EndsEdit};
 
 use crate::assign::assign;
+use crate::delete::{delete_all, delete_floats, delete_step};
+use crate::initialize::{initialize_all, initialize_step};
+use crate::let_text::{let_step, let_variable};
+use crate::unify::{unify_all, unify_step};
 use mm_base::{Memory, Steps};
-use mm_command::{Command, StepWord};
+use mm_command::Command;
 use mm_scope::{Database, StmtId};
 use mm_shell::{OpenProof, Refusal, State};
 use mm_tree::{Mark, Tree};
 use mm_undo::History;
+use mm_unify::Settings;
 use std::alloc::Global;
 use std::sync::ledger::Ledger;
 
@@ -51,28 +56,32 @@ pub fn edit<'a, L: Ledger>(
     let Some(proof) = &mut state.open_proof else {
         return Err(Refusal::NoProofOpen);
     };
-    edit_proof(alloc, database, proof, command, steps)
+    edit_proof(alloc, &state.settings, database, proof, command, steps)
 }
 
-// Whether an edit is built, by its words.
+// Whether an edit is built.
 fn is_built(command: Command<'_>) -> bool
     ensures { result ≡ is_built (meaning_of command.entry) }
 {
     match command {
-        Command::Assign { step, .. } => is_last(step),
+        Command::Assign { .. }
+        | Command::LetVariable { .. }
+        | Command::LetStep { .. }
+        | Command::UnifyStep { .. }
+        | Command::UnifyAll
+        | Command::InitializeStep { .. }
+        | Command::InitializeAll
+        | Command::DeleteStep { .. }
+        | Command::DeleteAll
+        | Command::DeleteFloats => true,
         _ => false,
     }
-}
-
-fn is_last(step: StepWord) -> bool
-    ensures { result ≡ is_last step }
-{
-    matches!(&step, StepWord::Last)
 }
 
 // Edits the open proof. The edit makes drafts in the tree, and is then kept or taken back.
 fn edit_proof<'a, L: Ledger>(
     alloc: Global,
+    settings: &Settings,
     database: &Database,
     proof: &mut OpenProof,
     command: Command<'a>,
@@ -80,11 +89,12 @@ fn edit_proof<'a, L: Ledger>(
 ) -> Result<Counts, Refusal<'a>>
     requires built { is_built (meaning_of command) ≡ true }
     requires held { IsOpenIn database.now proof.old }
-    ensures { EditsProof (edit_in (meaning_of command.entry) database.now proof.old) proof.old result proof.new }
+    ensures { EditsProof (edit_in (meaning_of command.entry) settings.now database.now proof.old) proof.old result proof.new }
 {
     let before = proof.tree.mark();
     match edit_tree(
         alloc,
+        settings,
         database,
         proof.theorem,
         &mut proof.tree,
@@ -147,6 +157,7 @@ fn pending_count(alloc: Global, database: &Database, tree: &Tree) -> Result<u32,
 #[tactic(auto, unfolding(crate::specs::Edits::edit_of))]
 fn edit_tree<'a, L: Ledger>(
     alloc: Global,
+    settings: &Settings,
     database: &Database,
     theorem: StmtId,
     tree: &mut Tree,
@@ -156,17 +167,46 @@ fn edit_tree<'a, L: Ledger>(
     requires at { theorem.0 < length (labels_of database.now) }
     requires valid { IsProofOf database.now theorem.0 tree.old.proof }
     requires settled { HasNoDrafts tree.old.versions }
-    ensures edited { EditsTree (edit_of (meaning_of command.entry) database.now theorem.0 tree.old.proof) tree.old.proof result tree.new.proof }
+    ensures edited { EditsTree (edit_of (meaning_of command.entry) settings.now database.now theorem.0 tree.old.proof) tree.old.proof result tree.new.proof }
     ensures marks { KeepsSettled tree.old.versions tree.new.versions }
     ensures begun { BeginsAlike tree.old.versions tree.new.versions }
     ensures refused { OnErr result (HasNoDrafts tree.new.versions) }
 {
     match command {
         Command::Assign {
+            step,
             label,
             guarded_too,
-            ..
-        } => assign(alloc, database, theorem, tree, label, guarded_too, steps),
+        } => assign(
+            alloc,
+            settings,
+            database,
+            theorem,
+            tree,
+            step,
+            label,
+            guarded_too,
+            steps,
+        ),
+        Command::LetVariable { number, text, word } => let_variable(
+            alloc, settings, database, theorem, tree, number, text, word, steps,
+        ),
+        Command::LetStep { step, text, word } => let_step(
+            alloc, settings, database, theorem, tree, step, text, word, steps,
+        ),
+        Command::UnifyStep { step, choice } => unify_step(
+            alloc, settings, database, theorem, tree, step, choice, steps,
+        ),
+        Command::UnifyAll => unify_all(alloc, settings, database, theorem, tree, steps),
+        Command::InitializeStep { step } => {
+            initialize_step(alloc, settings, database, theorem, tree, step, steps)
+        }
+        Command::InitializeAll => initialize_all(alloc, settings, database, theorem, tree, steps),
+        Command::DeleteStep { step } => {
+            delete_step(alloc, settings, database, theorem, tree, step, steps)
+        }
+        Command::DeleteAll => delete_all(alloc, settings, database, theorem, tree, steps),
+        Command::DeleteFloats => delete_floats(alloc, settings, database, theorem, tree, steps),
         _ => Err(Refusal::NotBuilt),
     }
 }

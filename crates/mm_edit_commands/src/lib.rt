@@ -2,6 +2,12 @@
 #![tactic(auto)]
 
 mod assign;
+mod delete;
 mod edits;
+mod initialize;
+mod let_text;
+mod refusals;
+mod step_words;
+mod unify;
 
 pub use edits::{Counts, edit};

@@ -19,9 +19,13 @@ use Rattle.mm_splice.specs.Keeping.{KeepsTheRest}
 use Rattle.mm_splice.specs.Splicing.{spliced}
 use Rattle.mm_stack.specs.Accepting.{Accepts}
 use Rattle.mm_proof.specs.Decoding.{proof_of as proof_text}
-use Rattle.mm_save.specs.Saving.{names_pairs, saved, saved_text}
+use Rattle.mm_save.specs.Clashes.{clashes_in}
+use Rattle.mm_save.specs.Saving.{saved, saved_text}
+use Rattle.mm_save.specs.declared.clash.Clash.{Clash}
+use Rattle.mm_save.specs.declared.form.Form.{Form}
 use Rattle.mm_save.proofs.Agreeing.{Agree, label_same}
-use Rattle.mm_save.proofs.Saves.{accepted_by, apart_without, saved_keeps, saved_agrees}
+use Rattle.mm_save.proofs.Clashing.{apart_by}
+use Rattle.mm_save.proofs.Saves.{accepted_by, saved_keeps, saved_agrees}
 use Rattle.mm_command.specs.Meanings as meaning
 use Rattle.mm_command.specs.Meanings.{Meaning}
 use Rattle.mm_shell.specs.Actions.{Origin, Nowhere}
@@ -33,10 +37,10 @@ use Rattle.mm_shell.specs.Sound.{IsOpenIn, AreSound, IsSound}
 use Rattle.mm_shell.specs.declared.answer.Saving.{Saving}
 use Rattle.mm_shell.specs.declared.state.State.{State}
 use Rattle.mm_shell.specs.declared.refusal.Refusal.{Refusal}
-use Rattle.mm_shell.specs.declared.refusal.Refusal.TheVariants.{NotUnified, NotBuilt, NotBuiltHere, TooLong}
+use Rattle.mm_shell.specs.declared.refusal.Refusal.TheVariants.{NotUnified, NotBuilt, TooLong}
 use Rattle.mm_shell.proofs.FindLemmas.{IsNamed, found_is, theorem_found, proof_found, own_labels}
 use Rattle.mm_shell.proofs.FitLemmas.{rows_fit, given_fits, done_fits, refused_fits}
-use Rattle.mm_proof_commands.specs.Commands.{prove, undo, redo, save, exit, exit_by, unknown_or_ready, database_with, proof_answer}
+use Rattle.mm_proof_commands.specs.Commands.{prove, show_proof, undo, redo, save, exit, exit_by, form_of, not_distinct, unknown_or_ready, database_with, proof_answer}
 use Rattle.mm_proof_commands.proofs.CompleteLemmas.{complete_by}
 
 -- ## PROVE
@@ -55,6 +59,11 @@ prove_fits s label guarded_too =
     rows_fit Nowhere s _ _ (given_fits Nowhere s _ _ (λ bytes is. given_fits Nowhere s _ _ (λ id found. rows_fit Nowhere s _ _ (done_fits Nowhere s _
     (subst (λ (d : Option (List ℕ)). OpensIn d (start_of bytes id s.undo_depth)) (sym (found_is s.database _ bytes is)) (start_open bytes label id s.undo_depth (theorem_found bytes label id found))) tt tt))))
 
+-- ## SHOW NEW_PROOF
+
+show_fits : (s : State) (only_unknown : Bool) → Fits Nowhere s (show_proof s only_unknown)
+show_fits s only_unknown = given_fits Nowhere s _ _ (λ here found. done_fits Nowhere s _ tt tt tt)
+
 -- ## UNDO and REDO
 
 undo_fits : (s : State) → Fits Nowhere s (undo s)
@@ -69,7 +78,7 @@ redo_fits s = given_fits Nowhere s _ _ (λ p found. rows_fit Nowhere s _ _ (done
 record IsReady (bytes : List ℕ) (p : ProofState) (some_unknown : Bool) : Type 0 where
   known : some_unknown ≡ false → has_unknown p.proof.plain ≡ false
   settled : some_unknown ≡ false → pending_in bytes p.proof.plain ≡ []
-  apart : some_unknown ≡ false → names_pairs bytes p.proof.plain ≡ false
+  apart : some_unknown ≡ false → slice_get (clashes_in bytes (distinct_at bytes p.theorem) p.proof.plain) 0 ≡ None
 
 no_first : (xs : List ℕ) → slice_get xs 0 ≡ None → xs ≡ []
 no_first [] e = refl
@@ -83,42 +92,43 @@ ok_bool a b e = cc
 
 is_ready : (bytes : List ℕ) (p : ProofState) (some_unknown : Bool) → unknown_or_ready bytes p ≡ Ok some_unknown → IsReady bytes p some_unknown
 unfolding unless
-is_ready bytes p some_unknown e = at (has_unknown p.proof.plain) refl (slice_get (pending_in bytes p.proof.plain) 0) refl (names_pairs bytes p.proof.plain) refl e where
-  at : (u : Bool) → has_unknown p.proof.plain ≡ u → (o : Option ℕ) → slice_get (pending_in bytes p.proof.plain) 0 ≡ o → (n : Bool) → names_pairs bytes p.proof.plain ≡ n
-      → (let r : Result Bool Refusal = if u then Ok true else none_of o NotUnified (unless ((n, NotBuiltHere) ∷ []) (Ok false)) in r) ≡ Ok some_unknown → IsReady bytes p some_unknown
-  at true is o none n apart e = unknown_ready bytes p some_unknown (ok_bool true some_unknown e)
-  at false is (Some step) none n apart e = cc
-  at false is None none true apart e = cc
-  at false is None none false apart e = record { known = λ f. is; settled = λ f. no_first (pending_in bytes p.proof.plain) none; apart = λ f. apart }
+is_ready bytes p some_unknown e =
+    at (has_unknown p.proof.plain) refl (slice_get (pending_in bytes p.proof.plain) 0) refl (slice_get (clashes_in bytes (distinct_at bytes p.theorem) p.proof.plain) 0) refl e where
+      at : (u : Bool) → has_unknown p.proof.plain ≡ u → (o : Option ℕ) → slice_get (pending_in bytes p.proof.plain) 0 ≡ o → (n : Option Clash) → slice_get (clashes_in bytes (distinct_at bytes p.theorem) p.proof.plain) 0 ≡ n
+          → (let r : Result Bool Refusal = if u then Ok true else none_of o NotUnified (none_of n (not_distinct bytes) (Ok false)) in r) ≡ Ok some_unknown → IsReady bytes p some_unknown
+      at true is o none n apart e = unknown_ready bytes p some_unknown (ok_bool true some_unknown e)
+      at false is (Some step) none n apart e = cc
+      at false is None none (Some clash) apart e = cc
+      at false is None none None apart e = record { known = λ f. is; settled = λ f. no_first (pending_in bytes p.proof.plain) none; apart = λ f. apart }
 
 no_more : (n m : ℕ) → nat_lt m n ≡ false → n ≤ m
 no_more n m h = grind arith
 
 -- what is known of the new database
-record IsWith (bytes : List ℕ) (p : ProofState) (new : List ℕ) : Type 0 where
-  is : new ≡ saved bytes p.theorem p.proof.plain
-  room : length (saved bytes p.theorem p.proof.plain) ≤ most_bytes
+record IsWith (bytes : List ℕ) (p : ProofState) (form : Form) (new : List ℕ) : Type 0 where
+  is : new ≡ saved bytes p.theorem form p.proof.plain
+  room : length (saved bytes p.theorem form p.proof.plain) ≤ most_bytes
 
-is_with : (bytes : List ℕ) (p : ProofState) (new : List ℕ) → database_with bytes p ≡ Ok new → IsWith bytes p new
+is_with : (bytes : List ℕ) (p : ProofState) (form : Form) (new : List ℕ) → database_with bytes p form ≡ Ok new → IsWith bytes p form new
 unfolding unless
-is_with bytes p new e = at (nat_lt most_bytes (length (saved bytes p.theorem p.proof.plain))) refl e where
-  at : (b : Bool) → nat_lt most_bytes (length (saved bytes p.theorem p.proof.plain)) ≡ b → unless ((b, TooLong) ∷ []) (Ok (saved bytes p.theorem p.proof.plain)) ≡ Ok new → IsWith bytes p new
+is_with bytes p form new e = at (nat_lt most_bytes (length (saved bytes p.theorem form p.proof.plain))) refl e where
+  at : (b : Bool) → nat_lt most_bytes (length (saved bytes p.theorem form p.proof.plain)) ≡ b → unless ((b, TooLong) ∷ []) (Ok (saved bytes p.theorem form p.proof.plain)) ≡ Ok new → IsWith bytes p form new
   at true is e = cc
   at false is e = record { is = cc; room = no_more _ most_bytes is }
 
 -- a complete proof holds in the database in which it is saved
-complete_holds : (bytes : List ℕ) (p : ProofState) → is_read bytes ≡ true → IsOpenIn bytes p → length (saved bytes p.theorem p.proof.plain) ≤ most_bytes → IsReady bytes p false → Holds (saved bytes p.theorem p.proof.plain) p.theorem
-complete_holds bytes p read h room ready =
+complete_holds : (bytes : List ℕ) (p : ProofState) (form : Form) → is_read bytes ≡ true → IsOpenIn bytes p → length (saved bytes p.theorem form p.proof.plain) ≤ most_bytes → IsReady bytes p false → Holds (saved bytes p.theorem form p.proof.plain) p.theorem
+complete_holds bytes p form read h room ready =
     let at : ℕ = p.theorem in
     let x : Plain = p.proof.plain in
-    let new : List ℕ = saved bytes at x in
+    let new : List ℕ = saved bytes at form x in
     let own : HasOwnLabels bytes x = own_labels bytes p h in
-    let accepts : Accepts new (label_at bytes at) = accepted_by bytes at read h.theorem x own room p.proof refl h.own (record {
+    let accepts : Accepts new (label_at bytes at) = accepted_by bytes at read h.theorem x own form room p.proof refl h.own (record {
       valid = h.valid;
       complete = complete_by bytes x (ready.known refl) (ready.settled refl);
-      apart = apart_without bytes (distinct_at bytes at) x (ready.apart refl);
+      apart = apart_by bytes (distinct_at bytes at) x (ready.apart refl);
     }) in
-    let agrees : Agree bytes new = saved_agrees bytes at read h.theorem x own room in
+    let agrees : Agree bytes new = saved_agrees bytes at read h.theorem form x own room in
     let found : find_label bytes (label_at bytes at) ≡ Some at = (has_label bytes at h.own).found in
     let same : accepts.id ≡ at = same_id bytes new (label_at bytes at) accepts.id at agrees.labels accepts.found found in
     let own_now : at < length (labels_of new) = subst (λ (ls : List (List ℕ)). at < length ls) (sym agrees.labels) h.own in
@@ -127,31 +137,31 @@ complete_holds bytes p read h room ready =
     same_id : (old new label : List ℕ) (i j : ℕ) → labels_of new ≡ labels_of old → find_label new label ≡ Some i → find_label old label ≡ Some j → i ≡ j
     same_id old new label i j same e f = let g : (let o : Option ℕ = Some i in o) ≡ Some j = sym e ∙ ap (λ (ls : List (List ℕ)). position (bytes_eq label) ls) same ∙ f in cc
 
-is_saving : (bytes : List ℕ) (p : ProofState) (some_unknown : Bool) (new : List ℕ) → is_read bytes ≡ true → IsOpenIn bytes p → IsReady bytes p some_unknown → IsWith bytes p new
+is_saving : (bytes : List ℕ) (p : ProofState) (form : Form) (some_unknown : Bool) (new : List ℕ) → is_read bytes ≡ true → IsOpenIn bytes p → IsReady bytes p some_unknown → IsWith bytes p form new
     → IsSaving bytes (record { database = new; theorem = record { 0 = p.theorem }; complete = not some_unknown })
-is_saving bytes p some_unknown new read h ready w =
+is_saving bytes p form some_unknown new read h ready w =
     subst (λ (b : List ℕ). IsSaving bytes (record { database = b; theorem = record { 0 = p.theorem }; complete = not some_unknown })) (sym w.is) (
     let at : ℕ = p.theorem in
     let x : Plain = p.proof.plain in
-    let keeps : KeepsTheRest bytes at (saved_text bytes x) = saved_keeps bytes at read h.theorem x (own_labels bytes p h) w.room in
+    let keeps : KeepsTheRest bytes at (saved_text bytes at form x) = saved_keeps bytes at read h.theorem form x (own_labels bytes p h) w.room in
     record {
       is = ap (spliced bytes at) (sym keeps.proof_is);
       keeps = subst (KeepsTheRest bytes at) (sym keeps.proof_is) keeps;
-      made = subst (λ (t : List ℕ). CanBeMade bytes bytes (record { theorem = at; text = t })) (sym keeps.proof_is) (record { theorem = h.theorem; text = text_fine bytes x (own_labels bytes p h); room = w.room });
-      accepted = λ complete. complete_holds bytes p read h w.room (subst (IsReady bytes p) (known_by some_unknown complete) ready);
+      made = subst (λ (t : List ℕ). CanBeMade bytes bytes (record { theorem = at; text = t })) (sym keeps.proof_is) (record { theorem = h.theorem; text = text_fine bytes at form x (own_labels bytes p h); room = w.room });
+      accepted = λ complete. complete_holds bytes p form read h w.room (subst (IsReady bytes p) (known_by some_unknown complete) ready);
     })
   where
     known_by : (b : Bool) → not b ≡ true → b ≡ false
     known_by true e = absurd (true≢false (sym e))
     known_by false e = refl
 
-save_fits : (s : State) (normal compressed guarded_too : Bool) → IsSound s → Fits Nowhere s (save s normal compressed guarded_too)
-save_fits s normal compressed guarded_too sound =
-    rows_fit Nowhere s _ _ (given_fits Nowhere s _ _ (λ here found. rows_fit Nowhere s _ _ (given_fits Nowhere s _ _ (λ some_unknown ready. given_fits Nowhere s _ _ (λ new is. done_fits Nowhere s _ (
+save_fits : (s : State) (compressed guarded_too : Bool) → IsSound s → Fits Nowhere s (save s compressed guarded_too)
+save_fits s compressed guarded_too sound =
+    given_fits Nowhere s _ _ (λ here found. rows_fit Nowhere s _ _ (given_fits Nowhere s _ _ (λ some_unknown ready. given_fits Nowhere s _ _ (λ new is. done_fits Nowhere s _ (
     let k : (s.database ≡ Some here.0) × (s.open_proof ≡ Some here.1) = proof_found s.database s.open_proof here found in
     let h : AreSound (Some here.0) (Some here.1) = subst (λ (d : Option (List ℕ)). AreSound d (Some here.1)) k.0 (subst (λ (o : Option ProofState). AreSound s.database o) k.1 sound) in
     subst (λ (d : Option (List ℕ)). SavesIn d (record { database = new; theorem = record { 0 = here.1.theorem }; complete = not some_unknown })) (sym k.0)
-    (is_saving here.0 here.1 some_unknown new h.0 h.1 (is_ready here.0 here.1 some_unknown ready) (is_with here.0 here.1 new is))) tt tt)))))
+    (is_saving here.0 here.1 (form_of compressed) some_unknown new h.0 h.1 (is_ready here.0 here.1 some_unknown ready) (is_with here.0 here.1 (form_of compressed) new is))) tt tt))))
 
 -- ## EXIT
 
@@ -162,9 +172,10 @@ exit_fits s force None = rows_fit Nowhere s _ _ (done_fits Nowhere s _ tt refl t
 pub proof_fits : (m : Meaning) (s : State) → IsSound s → Fits Nowhere s (proof_answer m s)
 unfolding proof_answer
 proof_fits meaning.Nothing s sound = done_fits Nowhere s _ tt tt tt
+proof_fits (meaning.ShowNewProof only_unknown) s sound = show_fits s only_unknown
 proof_fits (meaning.Prove label guarded_too) s sound = prove_fits s label guarded_too
 proof_fits meaning.Undo s sound = undo_fits s
 proof_fits meaning.Redo s sound = redo_fits s
-proof_fits (meaning.Save normal compressed guarded_too) s sound = save_fits s normal compressed guarded_too sound
+proof_fits (meaning.Save normal compressed guarded_too) s sound = save_fits s compressed guarded_too sound
 proof_fits (meaning.Exit force) s sound = exit_fits s force s.open_proof
 proof_fits _ s sound = refused_fits Nowhere s NotBuilt

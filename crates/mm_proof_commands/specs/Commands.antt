@@ -1,21 +1,27 @@
 -- What each command on the open proof or on the session means: its refusals in order, and then what it does.
-use Rattle.std.specs.Prelude.{◌&&◌, ◌||◌, ◌==◌, not, nat_lt, length, is_some, ℕ, Bool, true, false, List, [], ◌∷◌, Option, Some, None, Result, Ok, Err, if◌then◌else◌, slice_get}
+use Rattle.std.specs.Prelude.{◌&&◌, ◌==◌, not, nat_lt, length, is_some, ℕ, Bool, true, false, List, [], ◌∷◌, Option, Some, None, Result, Ok, Err, if◌then◌else◌, slice_get}
 use Rattle.mm_plain.specs.Numbers.{pending_in}
 use Rattle.mm_plain.specs.Shape.{size_of}
 use Rattle.mm_plain.specs.Labels.{label_at}
 use Rattle.mm_sound.specs.Complete.{has_unknown}
-use Rattle.mm_save.specs.Saving.{names_pairs, saved}
+use Rattle.mm_save.specs.Clashes.{clashes_in}
+use Rattle.mm_save.specs.Saving.{saved}
+use Rattle.mm_save.specs.declared.clash.Clash.{Clash}
+use Rattle.mm_save.specs.declared.form.Form.{Form}
+use Rattle.mm_save.specs.declared.form.Form.TheVariants.{Normal, Compressed}
+use Rattle.mm_scope.specs.Contents.{distinct_at}
 use Rattle.mm_scope.specs.Judged.{most_bytes}
 use Rattle.mm_command.specs.Meanings as meaning
 use Rattle.mm_command.specs.Meanings.{Meaning}
 use Rattle.mm_shell.specs.Answers.{Answer, unless, given, found_or, none_of, does, reports, changes}
 use Rattle.mm_shell.specs.Finding.{database_of, theorem_named, proof_of, is_closed}
 use Rattle.mm_shell.specs.OpenProofs.{ProofState, start_of}
+use Rattle.mm_shell.specs.Verdicts.{symbol_text}
 use Rattle.mm_shell.specs.declared.state.State.{State}
 use Rattle.mm_shell.specs.declared.answer.Change.TheVariants.{Opens, Saves, Undoes, Redoes, Leaves, Ends}
 use Rattle.mm_shell.specs.declared.refusal.Refusal.{Refusal}
-use Rattle.mm_shell.specs.declared.refusal.Refusal.TheVariants.{Guarded, ProofOpen, NoProofOpen, TooLong, NotUnified, NothingToUndo, NothingToRedo, ProofNotSaved, NotWritten, NotBuilt, NotBuiltHere}
-use Rattle.mm_shell.specs.declared.report.Report.TheVariants.{Nothing, Counts, Saved, Undone, Redone}
+use Rattle.mm_shell.specs.declared.refusal.Refusal.TheVariants.{Guarded, ProofOpen, NoProofOpen, TooLong, NotUnified, NotDistinct, NothingToUndo, NothingToRedo, ProofNotSaved, NotWritten, NotBuilt}
+use Rattle.mm_shell.specs.declared.report.Report.TheVariants.{Nothing, Counts, Saved, Steps, Undone, Redone}
 use Rattle.mm_proof_commands.specs.Unproved.{is_unproved}
 
 -- ## PROVE
@@ -31,6 +37,11 @@ prove s label guarded_too =
     ∷ [])
     (does (Counts 1 1 0) (Opens (start_of bytes id s.undo_depth))))))
 
+-- ## SHOW NEW_PROOF
+
+abbrev pub show_proof : State → Bool → Answer
+show_proof s only_unknown = given (proof_of s) (λ here. reports (Steps (here.0, here.1.proof.plain) only_unknown))
+
 -- ## UNDO and REDO
 
 abbrev pub undo : State → Answer
@@ -41,31 +52,37 @@ redo s = given (found_or s.open_proof NoProofOpen) (λ p. unless ((length p.futu
 
 -- ## SAVE NEW_PROOF
 
--- Whether some step is unknown. Where none is, none may be pending, and none may name a statement with mandatory pairs.
+-- the form that is asked for: the normal one, unless the other is named
+abbrev pub form_of : Bool → Form
+form_of compressed = if compressed then Compressed else Normal
+
+-- a step puts two variables together that must differ
+abbrev pub not_distinct : List ℕ → Clash → Refusal
+not_distinct bytes c = NotDistinct c.step (symbol_text bytes c.first.0) (symbol_text bytes c.second.0)
+
+-- Whether some step is unknown. Where none is, none may be pending, and no two variables may clash.
 abbrev pub unknown_or_ready : List ℕ → ProofState → Result Bool Refusal
 unknown_or_ready bytes p =
     if has_unknown p.proof.plain then Ok true
     else none_of (slice_get (pending_in bytes p.proof.plain) 0) NotUnified
-    (unless ((names_pairs bytes p.proof.plain, NotBuiltHere) ∷ []) (Ok false))
+    (none_of (slice_get (clashes_in bytes (distinct_at bytes p.theorem) p.proof.plain) 0) (not_distinct bytes) (Ok false))
 
--- the database with the proof
-abbrev pub database_with : List ℕ → ProofState → Result (List ℕ) Refusal
-database_with bytes p =
-    unless ((nat_lt most_bytes (length (saved bytes p.theorem p.proof.plain)), TooLong) ∷ [])
-    (Ok (saved bytes p.theorem p.proof.plain))
+-- the database with the proof in a form
+abbrev pub database_with : List ℕ → ProofState → Form → Result (List ℕ) Refusal
+database_with bytes p form =
+    unless ((nat_lt most_bytes (length (saved bytes p.theorem form p.proof.plain)), TooLong) ∷ [])
+    (Ok (saved bytes p.theorem form p.proof.plain))
 
-abbrev pub save_proof : List ℕ → ProofState → Bool → Answer
-save_proof bytes p guarded_too =
+abbrev pub save_proof : List ℕ → ProofState → Form → Bool → Answer
+save_proof bytes p form guarded_too =
     unless ((is_closed guarded_too bytes p.theorem, Guarded (label_at bytes p.theorem)) ∷ [])
     (given (unknown_or_ready bytes p) (λ some_unknown.
-    given (database_with bytes p) (λ new.
+    given (database_with bytes p form) (λ new.
     does (Saved (label_at bytes p.theorem) some_unknown (size_of p.proof.plain))
     (Saves (record { database = new; theorem = record { 0 = p.theorem }; complete = not some_unknown })))))
 
-abbrev pub save : State → Bool → Bool → Bool → Answer
-save s normal compressed guarded_too =
-    unless ((normal || compressed, NotBuilt) ∷ [])
-    (given (proof_of s) (λ here. save_proof here.0 here.1 guarded_too))
+abbrev pub save : State → Bool → Bool → Answer
+save s compressed guarded_too = given (proof_of s) (λ here. save_proof here.0 here.1 (form_of compressed) guarded_too)
 
 -- ## EXIT
 
@@ -81,9 +98,10 @@ exit s force = exit_by s force s.open_proof
 
 unfoldable pub proof_answer : Meaning → State → Answer
 proof_answer meaning.Nothing s = reports Nothing
+proof_answer (meaning.ShowNewProof only_unknown) s = show_proof s only_unknown
 proof_answer (meaning.Prove label guarded_too) s = prove s label guarded_too
 proof_answer meaning.Undo s = undo s
 proof_answer meaning.Redo s = redo s
-proof_answer (meaning.Save normal compressed guarded_too) s = save s normal compressed guarded_too
+proof_answer (meaning.Save normal compressed guarded_too) s = save s compressed guarded_too
 proof_answer (meaning.Exit force) s = exit s force
 proof_answer _ s = Err NotBuilt

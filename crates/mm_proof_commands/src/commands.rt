@@ -8,6 +8,7 @@ use crate::exit::exit;
 use crate::prove::prove;
 use crate::redo::redo;
 use crate::save::save;
+use crate::show_proof::show_proof;
 use crate::undo::undo;
 use mm_command::Command;
 use mm_shell::{Change, Done, Refusal, Report, State};
@@ -28,12 +29,13 @@ pub fn answer<'a>(
             report: Report::Nothing,
             change: Change::Stays,
         }),
+        Command::ShowNewProof { unknown } => show_proof(state, unknown),
         Command::Prove { label, guarded_too } => prove(alloc, state, label, guarded_too),
         Command::Save {
-            normal,
+            normal: _,
             compressed,
             guarded_too,
-        } => save(alloc, state, normal, compressed, guarded_too),
+        } => save(alloc, state, compressed, guarded_too),
         Command::Undo => undo(state),
         Command::Redo => redo(state),
         Command::Exit { force } => exit(state, force),

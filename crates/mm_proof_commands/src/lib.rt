@@ -7,6 +7,7 @@ mod lone;
 mod prove;
 mod redo;
 mod save;
+mod show_proof;
 mod undo;
 
 pub use commands::answer;

@@ -26,7 +26,7 @@ sc $a str c $.
 sxy $a str x y $.
 cat $a |- x y $.
 abc $p |- a b c $=
-      ? $.
+      ? ? cat $.
 ";
 
 /// Three theorems, of which the first has no proof yet.

@@ -52,9 +52,9 @@ Read: labelled 8, axioms 5, theorems 1.
 MM> PROVE abc
 Steps 1, unknown 1, pending 0.
 MM-PA> ASSIGN LAST cat
-?C62: label cat needs work variables
+Steps 3, unknown 2, pending 1.
 MM-PA> SAVE NEW_PROOF
-Saved abc: incomplete, 1 steps.
+Saved abc: incomplete, 3 steps.
 MM-PA> WRITE SOURCE out.mm
 ?C40: file fault
 MM-PA> \n";
@@ -66,9 +66,9 @@ Read: labelled 8, axioms 5, theorems 1.
 MM> PROVE abc
 Steps 1, unknown 1, pending 0.
 MM-PA> ASSIGN LAST cat
-?C62: label cat needs work variables
+Steps 3, unknown 2, pending 1.
 MM-PA> SAVE NEW_PROOF
-Saved abc: incomplete, 1 steps.
+Saved abc: incomplete, 3 steps.
 MM-PA> WRITE SOURCE out.mm
 ?C40: file fault
 MM-PA> WRITE SOURCE out.mm

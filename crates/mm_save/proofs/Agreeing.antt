@@ -1,5 +1,5 @@
 -- Databases that say the same of symbols and statements.
-use Rattle.std.proofs.Common.{◌≡◌, ℕ, List, [], ◌∷◌, map, nat_lt, nat_eq, slice_index_or, Option, None, Some, if◌then◌else◌, refl, ap, ◌∙◌}
+use Rattle.std.proofs.Common.{◌≡◌, ℕ, zero, suc, ◌+◌, List, [], ◌∷◌, ◌++◌, map, nat_lt, nat_eq, slice_index_or, Option, None, Some, if◌then◌else◌, refl, ap, ◌∙◌}
 use Rattle.std.specs.List.{filter_map, cons_option, list_any}
 use Rattle.mm_scope.specs.Contents.{labels_of, symbols_of, statements_of, stated_at, active_at, distinct_at, is_variable_of}
 use Rattle.mm_stated.specs.Mandatory.{variables_of}
@@ -17,10 +17,20 @@ use Rattle.mm_plain.specs.Shape.{target_of}
 use Rattle.mm_plain.specs.declared.plain.Plain.TheViews as V
 use Rattle.mm_plain.specs.Labels.{label_at}
 use Rattle.mm_sound.specs.Apart.{pairs_by}
+use Rattle.mm_layout.specs.Normal.{lines_of, behind_feeds, normal_text}
+use Rattle.mm_proof.specs.Compacting.{compact}
+use Rattle.mm_proof.specs.Encoding.{word_of, own_labels, listed_labels, laid_letters, compressed_proof}
+use Rattle.mm_proof.specs.Spelling.{letters, used}
+use Rattle.mm_proof.specs.Trees.{Tree}
+use Rattle.mm_proof.specs.declared.written.Step.{Step}
 use Rattle.mm_sound.specs.Complete.{labels_in}
+use Rattle.mm_sound.specs.LabelTrees.{label_tree}
 use Rattle.mm_sound.specs.Written.{word_for, written}
 use Rattle.mm_splice.specs.Keeping.{KeepsTheRest}
 use Rattle.mm_splice.specs.Splicing.{spliced}
+use Rattle.mm_save.specs.Saving.{saved_text}
+use Rattle.mm_save.specs.declared.form.Form.{Form}
+use Rattle.mm_save.specs.declared.form.Form.TheVariants.{Normal, Compressed}
 
 -- one database says of symbols and statements what another does
 pub record Agree (old new : List ℕ) : Type 0 where
@@ -118,3 +128,22 @@ module _ (old new : List ℕ) (same : Agree old new) where
 
   pub written_same : (x : Plain) → written new x ≡ written old x
   written_same x = map_same (word_for new) (word_for old) word_same (labels_in x)
+
+  number_same : (l : ℕ) → word_of new l ≡ word_of old l
+  unfolding word_of
+  number_same zero = refl
+  number_same (suc n) = ap (λ ls. slice_index_or ls n (63 ∷ [])) same.labels
+
+  -- the text of a compressed proof with these mandatory hypotheses and words
+  abbrev text_with : List Step → List ℕ → List (List ℕ) → List ℕ
+  text_with ss own ws = behind_feeds (lines_of ((40 ∷ []) ∷ ws ++ (41 ∷ []) ∷ [])) ++ (laid_letters 0 (letters (own ++ used own [] ss) ss) ++ 32 ∷ [])
+
+  compressed_same : (at : ℕ) (t : Tree) → compressed_proof new at t ≡ compressed_proof old at t
+  compressed_same at t =
+      ap (λ own. text_with (compact t) own (map (word_of new) (used own [] (compact t)))) (ap (map (λ n. n + 1)) (same.mandatory at))
+      ∙ ap (text_with (compact t) (own_labels old at)) (map_same (word_of new) (word_of old) number_same (listed_labels old at t))
+
+  -- the text of a saved proof
+  pub text_same : (at : ℕ) (form : Form) (x : Plain) → saved_text new at form x ≡ saved_text old at form x
+  text_same at Normal x = ap normal_text (written_same x)
+  text_same at Compressed x = compressed_same at (label_tree x)

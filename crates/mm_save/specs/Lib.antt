@@ -1,3 +1,4 @@
 pub mod Saving
 pub mod Saved
 pub mod Outside
+pub mod Clashes

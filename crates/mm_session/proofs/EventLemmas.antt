@@ -1,5 +1,5 @@
 -- What events say, and which of them were taken.
-use Rattle.std.proofs.Common.{◌≡◌, ◌<◌, ◌≤◌, ◌+◌, ◌-◌, ℕ, zero, suc, Bool, ◌&&◌, not, true, false, List, [], ◌∷◌, ◌++◌, length, take, nat_le, if◌then◌else◌, refl, sym, ◌∙◌, ap, subst, arith, append_assoc, length-append}
+use Rattle.std.proofs.Common.{◌≡◌, ◌<◌, ◌+◌, ◌-◌, ℕ, zero, suc, Bool, ◌&&◌, not, true, false, List, [], ◌∷◌, ◌++◌, length, take, nat_le, refl, sym, ◌∙◌, ap, subst, arith, append_assoc, length-append}
 use Rattle.std.proofs.lemmas.Bool.Decides.{nat_tests}
 use Rattle.mm_base.proofs.SinkLemmas.{append_nil}
 use Rattle.mm_shell.specs.declared.state.State.{State}

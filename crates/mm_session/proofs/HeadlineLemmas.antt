@@ -2,7 +2,6 @@
 use Rattle.std.proofs.Common.{◌≡◌, ◌+◌, ◌<◌, ◌≤◌, ◌==◌, ◌||◌, ℕ, zero, suc, Bool, true, false, List, [], ◌∷◌, ◌++◌, length, refl, sym, ◌∙◌, ap, subst, arith, slice_index_or, append_assoc, length-append, take, nat_lt, ◌≢◌, Result, Ok, Err, OnOk, OnErr, is_err, Contains, lit<, if◌then◌else◌}
 use Rattle.std.proofs.lemmas.Bool.{lt-ltb}
 use Rattle.std.proofs.Math.Seq.{take-append_seam}
-use Rattle.std.proofs.lemmas.Bool.Decides.{nat_tests}
 use Rattle.mm_base.specs.declared.files.Files.{Ghosts as FilesOf}
 use Rattle.mm_base.specs.declared.sink.Sink.{Ghosts as SinkOf}
 use Rattle.mm_base.specs.Sink.{Gains}
@@ -19,7 +18,7 @@ use Rattle.mm_step.specs.Effects.{is_refused}
 use Rattle.mm_step.specs.Logs.{LogChange, log_change}
 use Rattle.mm_session.specs.Logs.{Event, Says, bytes_of, first_events, before_text, after_text, said, said_by, said_next}
 use Rattle.mm_session.specs.Hearing.{RecorderOf, Recording, Hears, Shows}
-use Rattle.mm_session.specs.Output.{GainsLess, GainsFirst, SaysLess}
+use Rattle.mm_session.specs.Output.{GainsFirst, SaysLess}
 use Rattle.mm_session.proofs.EventLemmas.{bytes_append, first_past, first_within, before_bytes, change_bytes, part_bytes, said_text}
 use Rattle.mm_session.proofs.HearingLemmas.{hears_both, hears_silence, shows_by, shows_none, shows_piece, shows_then}
 use Rattle.mm_session.proofs.OutputLemmas.{less_of, less_of_one, first_after}

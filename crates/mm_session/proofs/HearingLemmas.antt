@@ -1,6 +1,6 @@
 -- What recorders have heard of events one after another.
 use Rattle.std.proofs.Common.{◌≡◌, ◌&&◌, not, ℕ, Bool, true, false, List, [], ◌∷◌, ◌++◌, refl, sym, ◌∙◌, ap, subst, append_assoc}
-use Rattle.mm_base.specs.Recorder.{Log, IsPart, CallsEach, CallsMany, HaveHeard, begun_with, heard_with, heard_where, longer}
+use Rattle.mm_base.specs.Recorder.{Log, IsPart, CallsEach, CallsMany, HaveHeard, begun_with, heard_where, longer}
 use Rattle.mm_base.specs.Sink.{Gains}
 use Rattle.mm_base.specs.declared.sink.Sink.{Ghosts as SinkOf}
 use Rattle.mm_base.proofs.SinkLemmas.{append_nil, gains_none, gains_then}

@@ -3,26 +3,23 @@ use Rattle.std.proofs.Common.{◌≡◌, ℕ, Bool, true, false, is_some, is_ok,
 use Rattle.std.proofs.lemmas.List.Elements.{All-contains}
 use Rattle.mm_base.specs.Files.{Map}
 use Rattle.mm_plain.proofs.Labels.{has_label}
-use Rattle.mm_scope.specs.Contents.{is_read, find_label, stated_at}
+use Rattle.mm_scope.specs.Contents.{is_read, stated_at}
 use Rattle.mm_scope.specs.Databases.{database_of as contents_of}
 use Rattle.mm_scope.specs.Events.{Event}
 use Rattle.mm_scope.specs.declared.fault.ReadFault.{ReadFault}
 use Rattle.mm_stated.specs.declared.statement.Kind.{Kind}
-use Rattle.mm_stated.specs.declared.statement.Kind.TheVariants.{Theorem}
 use Rattle.mm_stack.specs.declared.outcome.Verdict.{Verdict}
-use Rattle.mm_stack.specs.declared.outcome.Verdict.TheVariants.{Accepted}
-use Rattle.mm_stack.specs.Accepting.{verdict_of, Accepts}
+use Rattle.mm_stack.specs.Accepting.{Accepts}
 use Rattle.mm_command.specs.Meanings.{Read, VerifyProof}
-use Rattle.mm_shell.specs.Actions.{Fetches, Plan, answer_in, without_files}
+use Rattle.mm_shell.specs.Actions.{Fetches, answer_in, without_files}
 use Rattle.mm_shell.specs.Answers.{Answer, unless, given, found_or, or_refusal, reports}
 use Rattle.mm_shell.specs.Changes.{state_after}
 use Rattle.mm_shell.specs.Fitting.{AreChecked, IsChecked}
 use Rattle.mm_shell.specs.OpenProofs.{ProofState}
-use Rattle.mm_shell.specs.declared.answer.Change.{Change}
 use Rattle.mm_shell.specs.declared.state.State.{State}
 use Rattle.mm_shell.specs.declared.report.Report.TheVariants.{Verified}
 use Rattle.mm_shell.specs.declared.refusal.Refusal.{Refusal}
-use Rattle.mm_shell.specs.declared.refusal.Refusal.TheVariants.{AlreadyRead, BadDatabase, NoDatabase, NoFile, NoStatement, NotTheorem, ProofOpen}
+use Rattle.mm_shell.specs.declared.refusal.Refusal.TheVariants.{AlreadyRead, BadDatabase, NoDatabase, NoStatement, NotTheorem, ProofOpen}
 use Rattle.mm_shell.specs.Finding.{is_theorem, theorem_named}
 use Rattle.mm_database_commands.specs.Commands.{checked, database_plan, is_pattern, loaded, loading, theorems_matched, theorems_meant, verify}
 use Rattle.mm_step.specs.Asked.{Asked, Asks, asked_of}

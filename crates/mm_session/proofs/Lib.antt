@@ -13,3 +13,4 @@ pub mod OutputLemmas
 mod RefusedLemmas
 pub mod EventLemmas
 pub mod HearingLemmas
+mod UndoLemmas

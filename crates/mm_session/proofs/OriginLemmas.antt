@@ -1,6 +1,6 @@
 -- Where a database comes from.
 use Rattle.std.proofs.Common.{◌≡◌, ◌+◌, ℕ, zero, suc, List, Option, None, Some, refl, sym, ◌∙◌, ap, subst, arith}
-use Rattle.mm_splice.specs.Agreeing.{AgreesWith, CanBeMade}
+use Rattle.mm_splice.specs.Agreeing.{AgreesWith}
 use Rattle.mm_splice.specs.Overlay.{last_text}
 use Rattle.mm_splice.proofs.Agreeing.{agrees_at_begin, agrees_with_more}
 use Rattle.mm_shell.specs.Fitting.{MadeIn}

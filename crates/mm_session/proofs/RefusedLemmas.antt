@@ -1,12 +1,10 @@
 -- What a refused command changes.
-use Rattle.std.proofs.Common.{◌≡◌, ℕ, true, List, Option, None, refl, ap, ◌∙◌}
-use Rattle.mm_shell.specs.declared.state.State.{State}
-use Rattle.mm_step.specs.Effects.{Effect, Outcome, Fine, Starved, Faulted, ended, add_put}
+use Rattle.std.proofs.Common.{ℕ, List, Option, ap, ◌∙◌}
+use Rattle.mm_step.specs.Effects.{add_put}
 use Rattle.mm_step.specs.Asked.{asked_of}
 use Rattle.mm_step.specs.Effects.{step_of}
-use Rattle.mm_step.specs.Laws.{ChangesNothing}
 use Rattle.mm_step.proofs.LawLemmas as step
-use Rattle.mm_session.specs.Session.{Machine, Turn, session, turn, effect_of}
+use Rattle.mm_session.specs.Session.{Machine, Turn, session, turn}
 use Rattle.mm_session.specs.Laws.{RefusedChangesNothing}
 use Rattle.mm_session.proofs.SessionLemmas.{session_suc}
 

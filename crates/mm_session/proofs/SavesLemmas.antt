@@ -7,8 +7,7 @@ use Rattle.mm_stack.specs.Accepting.{Accepts}
 use Rattle.mm_command.specs.Meanings.{WriteSource}
 use Rattle.mm_shell.specs.Saves.{Holds, HoldsIn}
 use Rattle.mm_step.specs.Asked.{Asked, Asks, asked_of}
-use Rattle.mm_step.specs.Effects.{Outcome, asked_effect, ended, step_of}
-use Rattle.mm_step.specs.Laws.{effect_on}
+use Rattle.mm_step.specs.Effects.{asked_effect, ended, step_of}
 use Rattle.mm_step.proofs.LawLemmas as step
 use Rattle.mm_session.specs.Session.{Script, Turn, session, turn}
 use Rattle.mm_session.specs.Saves.{is_proved, AcceptsIn, SavedTheoremsHold, WrittenTheoremsHold, OnlySavesChange, PutsTheDatabase}

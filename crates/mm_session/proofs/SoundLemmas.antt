@@ -1,8 +1,8 @@
 -- The state is sound after each command.
-use Rattle.std.proofs.Common.{◌≡◌, ℕ, zero, suc, true, List, Option, Some, None, sym, subst, ap, ◌∙◌}
+use Rattle.std.proofs.Common.{◌≡◌, ℕ, zero, suc, true, List, Option, Some, None, sym, ap, ◌∙◌}
 use Rattle.mm_scope.specs.Contents.{is_read}
 use Rattle.mm_shell.specs.OpenProofs.{ProofState}
-use Rattle.mm_shell.specs.Sound.{AreSound, IsSound}
+use Rattle.mm_shell.specs.Sound.{AreSound}
 use Rattle.mm_step.specs.Asked.{asked_of}
 use Rattle.mm_step.specs.Effects.{step_of}
 use Rattle.mm_step.proofs.LawLemmas.{stays_sound}

@@ -11,3 +11,4 @@ pub mod Turns
 pub mod Saves
 pub mod Logs
 pub mod Hearing
+pub mod Undos

@@ -1,5 +1,5 @@
 -- The logs of a session, by what it says.
-use Rattle.std.specs.Prelude.{◌-◌, ℕ, zero, suc, Bool, true, false, List, [], ◌∷◌, ◌++◌, length, take, nat_le, if◌then◌else◌, slice_index_or}
+use Rattle.std.specs.Prelude.{◌-◌, ℕ, zero, suc, List, [], ◌∷◌, ◌++◌, length, take, nat_le, if◌then◌else◌, slice_index_or}
 use Rattle.mm_base.specs.Recorder.{Log}
 use Rattle.mm_shell.specs.declared.state.State.{State}
 use Rattle.mm_step.specs.Asked.{asked_of}

@@ -1,5 +1,5 @@
 -- How much of a text a screen has taken.
-use Rattle.std.specs.Prelude.{◌≡◌, ◌<◌, ◌≤◌, ℕ, Bool, List, [], ◌∷◌, ◌++◌, length, take}
+use Rattle.std.specs.Prelude.{◌<◌, ◌≤◌, ℕ, Bool, List, [], ◌∷◌, ◌++◌, length, take}
 use Rattle.mm_base.specs.Sink.{Gains}
 use Rattle.mm_session.specs.Logs.{Event, Says}
 use Rattle.mm_session.specs.Hearing.{RecorderOf, Recording, Hears}

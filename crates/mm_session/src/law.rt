@@ -4,6 +4,7 @@ ghost use Rattle.mm_step.specs.Asked.{asked_of};
 ghost use Rattle.mm_session.specs.Session.{shown};
 ghost use Rattle.mm_session.specs.Laws.{SaysAccepted, AcceptedIsSaid, RefusedChangesNothing, SessionIsSound, ReadIsWhole};
 ghost use Rattle.mm_session.specs.Saves.{DatabasesAreFromFiles, OnlySavesChange, PutsTheDatabase, SavedTheoremsHold, WrittenTheoremsHold};
+ghost use Rattle.mm_session.specs.Undos.{EditsAreUndone, RedosAreAccepted, RedosLeadForward, UndosAreAccepted, UndosLeadBack};
 
 /// Of a line that is too long, as much as a line reader keeps of it is as good as all of it.
 pub fn kept_is_enough()
@@ -47,4 +48,15 @@ pub fn only_saves_change_a_database()
     ensures change { OnlySavesChange }
     ensures origin { DatabasesAreFromFiles }
     ensures put { PutsTheDatabase }
+{}
+
+/// As many UNDOs as edits were accepted since a proof was in hand give that proof again, where SET UNDO keeps so many,
+/// whatever else was asked between. UNDO is accepted where there is a past, and REDO where there is a future: they take no
+/// memory. Each leads one proof back or forward.
+pub fn edits_are_undone()
+    ensures undone { EditsAreUndone }
+    ensures back { UndosLeadBack }
+    ensures forward { RedosLeadForward }
+    ensures undo_accepted { UndosAreAccepted }
+    ensures redo_accepted { RedosAreAccepted }
 {}

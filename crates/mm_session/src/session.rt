@@ -4,6 +4,7 @@ ghost use Rattle.mm_session.specs.Headline.{IsSession, KeepsLogs};
 ghost use Rattle.mm_session.specs.Hearing.{AreReady, recording, telling};
 ghost use Rattle.mm_session.specs.Laws.{RefusedChangesNothing, SessionIsSound};
 ghost use Rattle.mm_session.specs.Saves.{DatabasesAreFromFiles, PutsTheDatabase, WrittenTheoremsHold};
+ghost use Rattle.mm_session.specs.Undos.{EditsAreUndone, RedosAreAccepted, RedosLeadForward, UndosAreAccepted, UndosLeadBack};
 
 use crate::commands::Commands;
 use crate::output::Output;
@@ -61,6 +62,14 @@ pub fn run_session<F: Files, S: Source, K: Sink, L: Ledger>(
     ensures accepted { WrittenTheoremsHold }
     ensures origin { DatabasesAreFromFiles }
     ensures written { PutsTheDatabase }
+
+    // As many UNDOs as edits give the proof before these edits. UNDO is accepted where there is a past, and REDO where there is
+    // a future; each leads one proof back or forward.
+    ensures undone { EditsAreUndone }
+    ensures back { UndosLeadBack }
+    ensures forward { RedosLeadForward }
+    ensures undo_accepted { UndosAreAccepted }
+    ensures redo_accepted { RedosAreAccepted }
 
     // Why it ended.
     ensures input_failed { result.status ≡ 3 → RoseBy 1 (S.faults input.old) (S.faults input.new) }

@@ -8,5 +8,8 @@ pub mod Finding
 pub mod Fitting
 pub mod Lines
 pub mod Listings
+pub mod Steps
+pub mod Strings
+pub mod Choices
 pub mod Texts
 pub mod Verdicts

@@ -5,13 +5,14 @@ use Rattle.mm_command.specs.declared.fault.LineFault.{LineFault}
 use Rattle.mm_scope.specs.Faults.{number_of, place_of}
 use Rattle.mm_scope.specs.declared.fault.ReadFault.{ReadFault}
 use Rattle.mm_shell.specs.Answers.{Answer}
-use Rattle.mm_shell.specs.Lines.{line_of, numbered}
+use Rattle.mm_shell.specs.Lines.{counts_text, line_of, numbered}
 use Rattle.mm_shell.specs.Listings.{statements_text}
+use Rattle.mm_shell.specs.Steps.{steps_text}
 use Rattle.mm_shell.specs.Verdicts.{checks_text}
 use Rattle.mm_shell.specs.declared.refusal.Refusal.{Refusal}
-use Rattle.mm_shell.specs.declared.refusal.Refusal.TheVariants.{WrongWord, LineTooLong, NoDatabase, AlreadyRead, NoFile, BadDatabase, NoStatement, NotTheorem, Guarded, ProofOpen, NoProofOpen, TooManySteps, TooDeep, NoStep, NotEarlier, NotActive, NoMatch, TooLong, NotUnified, NothingToUndo, NothingToRedo, ProofNotSaved, NotWritten, NoLog, FileFault, OutOfMemory, LogKept, NotBuilt, NotBuiltHere, NeedsWork}
+use Rattle.mm_shell.specs.declared.refusal.Refusal.TheVariants.{WrongWord, LineTooLong, NoDatabase, AlreadyRead, NoFile, BadDatabase, NoStatement, NotTheorem, Guarded, ProofOpen, NoProofOpen, NoTree, TooManySteps, TooDeep, NoStep, StepKnown, StepUnknown, NotEarlier, NotActive, NoUnifier, TooLong, TrialsSpent, LengthSpent, SeveralUnifiers, NotPending, NoChoice, BadSymbol, OccursInValue, NothingChanged, HasWork, NotComplete, NotUnified, NotDistinct, NothingToUndo, NothingToRedo, ProofNotSaved, NotWritten, NoLog, FileFault, OutOfMemory, WorkSpent, LogKept, NotBuilt}
 use Rattle.mm_shell.specs.declared.report.Report.{Report}
-use Rattle.mm_shell.specs.declared.report.Report.TheVariants.{Nothing, Loaded, Verified, Listed, Wrote, LogOpened, LogClosed, Counts, Undone, Redone, UndoDepth, Trials, Brackets, NoEmptyStrings, Saved}
+use Rattle.mm_shell.specs.declared.report.Report.TheVariants.{Nothing, Loaded, Verified, Listed, Steps, Wrote, LogOpened, LogClosed, Counts, Undone, Redone, UndoDepth, Trials, Brackets, NoEmptyStrings, Saved}
 
 -- ## Refusals
 
@@ -26,6 +27,18 @@ wrong_word_text fault =
 unfoldable pub bad_database_text : ReadFault → List ℕ
 bad_database_text fault = numbered 8 (codes "database fault " ++ (decimal (number_of fault) ++ (codes " at byte " ++ (decimal (place_of fault) ++ 10 ∷ []))))
 
+-- with the numbers of a step and of what it has
+unfoldable pub counted_text : ℕ → ℕ → ℕ → List ℕ → List ℕ
+counted_text n step count what = numbered n (codes "step " ++ (decimal step ++ (codes " has " ++ (decimal count ++ what))))
+
+-- with the number of the word
+unfoldable pub bad_symbol_text : ℕ → List ℕ
+bad_symbol_text word = numbered 27 (codes "bad symbol " ++ (decimal word ++ line_of (codes " in the text")))
+
+-- with the number of the step and the two variables
+unfoldable pub not_distinct_text : ℕ → List ℕ → List ℕ → List ℕ
+not_distinct_text step u v = numbered 33 (codes "step " ++ (decimal step ++ (codes " needs " ++ (u ++ (codes " and " ++ (v ++ line_of (codes " distinct")))))))
+
 abbrev pub refusal_text : Refusal → List ℕ
 refusal_text (WrongWord fault) = wrong_word_text fault
 refusal_text LineTooLong = numbered 4 (line_of (codes "line too long"))
@@ -38,14 +51,28 @@ refusal_text (NotTheorem label) = numbered 10 (label ++ line_of (codes " is not 
 refusal_text (Guarded label) = numbered 11 (label ++ line_of (codes " is guarded"))
 refusal_text ProofOpen = numbered 12 (line_of (codes "a proof is in hand"))
 refusal_text NoProofOpen = numbered 13 (line_of (codes "no proof is in hand"))
+refusal_text (NoTree label) = numbered 14 (codes "the proof of " ++ (label ++ line_of (codes " has no tree")))
 refusal_text TooManySteps = numbered 15 (line_of (codes "more than 1000000 steps"))
 refusal_text TooDeep = numbered 16 (line_of (codes "higher than 2000 steps"))
 refusal_text NoStep = numbered 17 (line_of (codes "no such step"))
+refusal_text (StepKnown step) = numbered 18 (codes "step " ++ (decimal step ++ line_of (codes " is known")))
+refusal_text (StepUnknown step) = numbered 19 (codes "step " ++ (decimal step ++ line_of (codes " is unknown")))
 refusal_text (NotEarlier label) = numbered 20 (label ++ line_of (codes " is not earlier"))
 refusal_text (NotActive label) = numbered 21 (codes "hypothesis " ++ (label ++ line_of (codes " is not active")))
-refusal_text (NoMatch step) = numbered 22 (codes "step " ++ (decimal step ++ line_of (codes " has no unifier")))
+refusal_text (NoUnifier step) = numbered 22 (codes "step " ++ (decimal step ++ line_of (codes " has no unifier")))
 refusal_text TooLong = numbered 23 (line_of (codes "limit: length"))
+refusal_text (TrialsSpent choices) = choices ++ numbered 23 (line_of (codes "limit: trials"))
+refusal_text (LengthSpent choices) = choices ++ numbered 23 (line_of (codes "limit: length"))
+refusal_text (SeveralUnifiers choices step count) = choices ++ counted_text 24 step count (line_of (codes " unifiers"))
+refusal_text (NotPending step) = numbered 25 (codes "step " ++ (decimal step ++ line_of (codes " is not pending")))
+refusal_text (NoChoice step count) = counted_text 26 step count (line_of (codes " choices"))
+refusal_text (BadSymbol word) = bad_symbol_text word
+refusal_text (OccursInValue number) = numbered 28 (codes "$" ++ (decimal number ++ line_of (codes " occurs in its own value")))
+refusal_text NothingChanged = numbered 29 (line_of (codes "nothing changed"))
+refusal_text (HasWork step) = numbered 30 (codes "step " ++ (decimal step ++ line_of (codes " has work variables")))
+refusal_text NotComplete = numbered 31 (line_of (codes "the proof is not complete"))
 refusal_text (NotUnified step) = numbered 32 (codes "step " ++ (decimal step ++ line_of (codes " is not unified")))
+refusal_text (NotDistinct step u v) = not_distinct_text step u v
 refusal_text NothingToUndo = numbered 34 (line_of (codes "nothing to undo"))
 refusal_text NothingToRedo = numbered 35 (line_of (codes "nothing to redo"))
 refusal_text ProofNotSaved = numbered 36 (line_of (codes "the proof is not saved"))
@@ -53,10 +80,9 @@ refusal_text NotWritten = numbered 37 (line_of (codes "the database is not writt
 refusal_text NoLog = numbered 38 (line_of (codes "no log"))
 refusal_text FileFault = numbered 40 (line_of (codes "file fault"))
 refusal_text OutOfMemory = numbered 42 (line_of (codes "out of memory"))
+refusal_text WorkSpent = numbered 43 (line_of (codes "work variables are spent"))
 refusal_text LogKept = numbered 44 (line_of (codes "a log is already kept"))
 refusal_text NotBuilt = numbered 60 (line_of (codes "not built yet"))
-refusal_text NotBuiltHere = numbered 60 (line_of (codes "not built yet"))
-refusal_text (NeedsWork label) = numbered 62 (codes "label " ++ (label ++ line_of (codes " needs work variables")))
 
 -- ## Reports
 
@@ -65,10 +91,6 @@ loaded_text labelled axioms theorems = codes "Read: labelled " ++ (decimal label
 
 unfoldable pub wrote_text : List ℕ → List ℕ
 wrote_text name = codes "Wrote " ++ (name ++ line_of (codes "."))
-
-unfoldable pub counts_text : ℕ → ℕ → ℕ → List ℕ
-counts_text steps unknown pending =
-    codes "Steps " ++ (decimal steps ++ (codes ", unknown " ++ (decimal unknown ++ (codes ", pending " ++ (decimal pending ++ (codes "." ++ 10 ∷ []))))))
 
 -- with a number at its end
 unfoldable pub setting_text : List ℕ → ℕ → List ℕ
@@ -91,6 +113,7 @@ report_text Nothing = []
 report_text (Loaded labelled axioms theorems) = loaded_text labelled axioms theorems
 report_text (Verified bytes checks) = checks_text bytes checks
 report_text (Listed bytes ids) = statements_text bytes ids
+report_text (Steps proof only_unknown) = steps_text proof.0 proof.1 only_unknown
 report_text (Wrote name) = wrote_text name
 report_text LogOpened = line_of (codes "Log opened.")
 report_text LogClosed = line_of (codes "Log closed.")

@@ -1,26 +1,14 @@
 //! What SHOW TRACE_BACK and SHOW USAGE list.
 
 ghost use Rattle.std.specs.Prelude.{◌≡◌, ◌++◌, IfOk, OnOk, map};
-ghost use Rattle.mm_plain.specs.Labels.{label_at};
 ghost use Rattle.mm_shell.specs.Listings.{count_line, statement_line, statements_text};
 
-use crate::find::label_of;
+use crate::names::label_text;
 use crate::text::Text;
 use itoa::Buffer;
 use mm_base::Memory;
 use mm_scope::{Database, StmtId};
 use std::alloc::Global;
-
-/// The label of a statement; no byte where there is none.
-fn label_text(database: &Database, id: StmtId) -> &[u8]
-    ensures { result.now ≡ label_at database.now id.0 }
-{
-    if id.0 < database.count() {
-        label_of(database, id)
-    } else {
-        &[]
-    }
-}
 
 /// Appends the line of a statement.
 #[tactic(auto, unfolding(crate::specs::Listings::statement_line))]

@@ -1,6 +1,6 @@
 use crate::checks::Checks;
 use crate::statements::Statements;
-use crate::word::{DatabaseRef, Word};
+use crate::word::{DatabaseRef, ProofRef, Word};
 
 /// What a command that isn't refused reports.
 #[derive(Drop)]
@@ -12,6 +12,8 @@ pub enum Report<'a> {
     Verified(DatabaseRef<'a>, Checks),
     /// Statements of the database.
     Listed(DatabaseRef<'a>, Statements),
+    /// The steps of a proof; where this is so, the unknown ones alone.
+    Steps(ProofRef<'a>, bool),
     /// The database was written into the file of this name.
     Wrote(Word<'a>),
     LogOpened,

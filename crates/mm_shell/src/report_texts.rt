@@ -6,6 +6,7 @@ ghost use Rattle.mm_shell.specs.Texts.{loaded_text, report_text, saved_text, sta
 
 use crate::listing::statements_text;
 use crate::report::Report;
+use crate::steps::steps_text;
 use crate::text::Text;
 use crate::verdict::checks_text;
 use crate::word::Word;
@@ -27,6 +28,7 @@ pub fn report_text(alloc: Global, report: &Report<'_>) -> Result<Text, Memory>
         Report::Listed(database, statements) => {
             statements_text(alloc, database.database(), statements.as_slice())
         }
+        Report::Steps(proof, only_unknown) => steps_text(alloc, proof, *only_unknown),
         Report::Wrote(name) => wrote(alloc, name),
         Report::LogOpened => Ok(Text::fixed(alloc, b"Log opened.\n")),
         Report::LogClosed => Ok(Text::fixed(alloc, b"Log closed.\n")),

@@ -1,7 +1,7 @@
 ghost use Rattle.std.specs.Prelude.{◌≡◌, ◌+◌, ◌≤◌, ◌++◌, IfOk, codes, length};
 ghost use Rattle.std.specs.Fmt.{decimal};
-ghost use Rattle.mm_shell.specs.Lines.{numbered};
-ghost use Rattle.mm_shell.specs.Texts.{counts_text, setting_text};
+ghost use Rattle.mm_shell.specs.Lines.{counts_text, numbered};
+ghost use Rattle.mm_shell.specs.Texts.{setting_text};
 
 use crate::word::Word;
 use arrayvec::ArrayVec;
@@ -50,7 +50,7 @@ impl Text {
     }
 
     /// The counts of a proof's steps. It takes no memory.
-    #[tactic(auto, unfolding(crate::specs::Texts::counts_text))]
+    #[tactic(auto, unfolding(crate::specs::Lines::counts_text))]
     pub fn counts(alloc: Global, steps: u32, unknown: u32, pending: u32) -> Text
         ensures { result ≡ counts_text steps unknown pending }
     {

@@ -1,14 +1,13 @@
 //! What VERIFY PROOF says of theorems.
 
 ghost use Rattle.std.specs.Prelude.{◌≡◌, ◌++◌, IfOk, OnOk, count_by};
-ghost use Rattle.mm_plain.specs.Labels.{label_at};
-ghost use Rattle.mm_shell.specs.Verdicts.{checked_text, at_step, symbol_text, with_pair, fault_text, check_line, checks_text, is_accepted, is_faulty, is_incomplete, last_line};
+ghost use Rattle.mm_shell.specs.Verdicts.{checked_text, at_step, with_pair, fault_text, check_line, checks_text, is_accepted, is_faulty, is_incomplete, last_line};
 
 use crate::checks::Check;
-use crate::find::label_of;
+use crate::names::{label_text, symbol_text};
 use crate::text::Text;
 use mm_base::Memory;
-use mm_scope::{Database, StmtId, Sym};
+use mm_scope::{Database, Sym};
 use mm_stack::{StackFault, Verdict};
 use std::alloc::Global;
 
@@ -34,17 +33,6 @@ fn at_step(alloc: Global, number: u8, step: u64) -> Result<Vec<u8>, Memory>
     ensures { IfOk result (λ text. text.items ≡ at_step number step) }
 {
     Ok(format!(in alloc; "fault {number} at step {step}")?.into_bytes())
-}
-
-/// The text of a symbol; no byte where there is none.
-fn symbol_text(database: &Database, symbol: Sym) -> &[u8]
-    ensures { result.now ≡ symbol_text database.now symbol.0 }
-{
-    if symbol.0 < database.symbols() {
-        database.symbol(symbol)
-    } else {
-        &[]
-    }
 }
 
 /// A fault by its number, with the step that has it and two symbols.
@@ -119,17 +107,6 @@ fn push_line(
         }
     }
     Ok(())
-}
-
-/// The label of a statement; no byte where there is none.
-fn label_text(database: &Database, id: StmtId) -> &[u8]
-    ensures { result.now ≡ label_at database.now id.0 }
-{
-    if id.0 < database.count() {
-        label_of(database, id)
-    } else {
-        &[]
-    }
 }
 
 fn is_accepted(verdict: Verdict) -> bool

@@ -8,7 +8,7 @@ use Rattle.mm_command.specs.Meanings.{meaning_of}
 use Rattle.mm_command.specs.Spelled.{spelled}
 use Rattle.mm_command.specs.Table.{line_said}
 use Rattle.mm_command.proofs.MeaningLemmas.{meaning_back}
-use Rattle.mm_step.specs.Asked.{Asked, TooLong, Wrong, Asks, asks, asked_by, asked_of}
+use Rattle.mm_step.specs.Asked.{TooLong, Wrong, Asks, asks, asked_by, asked_of}
 
 pub asked_long : (line : List ℕ) → 65536 < length line → asked_of line ≡ TooLong
 unfolding asked_of

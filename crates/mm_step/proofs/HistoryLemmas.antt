@@ -1,18 +1,16 @@
 -- What lines make of the history of the open proof.
-use Rattle.std.proofs.Common.{◌≡◌, ◌==◌, ◌<◌, ◌≤◌, ◌-◌, ℕ, Bool, true, false, not, is_err, List, [], ◌∷◌, length, slice_get, Option, None, Some, Result, Ok, Err, refl, sym, ◌∙◌, ap, subst, arith, true≢false}
+use Rattle.std.proofs.Common.{◌≡◌, ◌==◌, ◌≤◌, ◌-◌, ℕ, Bool, true, false, not, is_err, List, [], ◌∷◌, length, Option, None, Some, Result, Ok, Err, refl, sym, ◌∙◌, ap, subst, arith, true≢false}
 use Rattle.std.proofs.lemmas.Bool.{eqb-true, eq-eqb}
-use Rattle.circular_buffer.specs.Buffer.{last_item}
 use Rattle.circular_buffer.proofs.Places.{slice_get-some}
 use Rattle.mm_base.specs.Files.{Map}
 use Rattle.mm_plain.specs.Shape.{Proof}
 use Rattle.mm_command.specs.Meanings as meaning
 use Rattle.mm_command.specs.Meanings.{Meaning}
 use Rattle.mm_undo.specs.Histories.{IsRedone, IsUndone}
-use Rattle.mm_shell.specs.Actions.{Action, Does, Fetches, Puts, Plan, answer_in, without_files}
+use Rattle.mm_shell.specs.Actions.{Fetches, Plan, answer_in, plan_takes, reaches, without_files}
 use Rattle.mm_shell.specs.Answers.{Answer, unless, given, found_or, does}
 use Rattle.mm_shell.specs.Changes.{apply_change, proof_after, state_after}
-use Rattle.mm_shell.specs.Finding.{proof_of}
-use Rattle.mm_shell.specs.OpenProofs.{ProofState, after_edit, after_redo, after_save, after_undo, lists_in, start_of, with_depth}
+use Rattle.mm_shell.specs.OpenProofs.{ProofState, after_edit, after_redo, after_save, after_undo, lists_in, with_depth}
 use Rattle.mm_shell.specs.declared.state.State.{State}
 use Rattle.mm_shell.specs.declared.answer.Done.{Done}
 use Rattle.mm_shell.specs.declared.answer.Change.{Change}
@@ -22,13 +20,13 @@ use Rattle.mm_shell.specs.declared.refusal.Refusal.TheVariants.{NoProofOpen, Not
 use Rattle.mm_shell.specs.declared.report.Report.TheVariants.{Undone, Redone}
 use Rattle.mm_shell.proofs.FindLemmas.{proof_found}
 use Rattle.mm_shell.proofs.HistoryLemmas.{undo_leads_back, redo_leads_forward}
-use Rattle.mm_database_commands.specs.Commands.{database_plan, loaded, read, trace_back, usage, verify, write}
+use Rattle.mm_database_commands.specs.Commands.{database_plan, loaded, trace_back, usage, verify}
 use Rattle.mm_setting_commands.specs.Commands.{setting_answer}
-use Rattle.mm_edit_commands.specs.Edits.{Edit, counts_of, edit_answer, edit_in, edit_of, edits}
-use Rattle.mm_proof_commands.specs.Commands.{exit_by, proof_answer, prove, redo, save, undo}
+use Rattle.mm_edit_commands.specs.Edits.{Edit, counts_of, edit_answer, edit_of}
+use Rattle.mm_proof_commands.specs.Commands.{exit_by, proof_answer, prove, redo, save, show_proof, undo}
 use Rattle.mm_step.specs.Effects.{Fine, Starved, Faulted, command_plan, plan_in}
 use Rattle.mm_step.specs.Groups.{group_of}
-use Rattle.mm_step.specs.Histories.{IsAppended, IsCut, IsUntouched, IsMovedIn, IsMoved, IsBegun, HistoriesMove, HistoriesBegin, IsAccepted, UndosAreAccepted, RedosAreAccepted}
+use Rattle.mm_step.specs.Histories.{IsAppended, IsCut, IsUntouched, IsMovedIn, IsMoved, IsBegun, HistoriesMove, HistoriesBegin, IsAccepted, UndosAreAccepted, RedosAreAccepted, UndosAreFree, RedosAreFree, UndosLeadBack, RedosLeadForward}
 use Rattle.mm_step.specs.declared.group.Group.{Group}
 use Rattle.mm_step.specs.declared.group.Group.TheVariants as group
 
@@ -188,15 +186,19 @@ exit_quiet : (s : State) (force : Bool) (o : Option ProofState) → Quiet (exit_
 exit_quiet s force (Some p) = rows_quiet _ _ tt
 exit_quiet s force None = rows_quiet _ _ tt
 
-save_quiet : (s : State) (normal compressed guarded_too : Bool) → Quiet (save s normal compressed guarded_too)
-save_quiet s normal compressed guarded_too = rows_quiet _ _ (given_quiet _ _ (λ here. rows_quiet _ _ (given_quiet _ _ (λ some_unknown. given_quiet _ _ (λ new. tt)))))
+save_quiet : (s : State) (compressed guarded_too : Bool) → Quiet (save s compressed guarded_too)
+save_quiet s compressed guarded_too = given_quiet _ _ (λ here. rows_quiet _ _ (given_quiet _ _ (λ some_unknown. given_quiet _ _ (λ new. tt))))
+
+show_quiet : (s : State) (only_unknown : Bool) → Quiet (show_proof s only_unknown)
+show_quiet s only_unknown = given_quiet _ _ (λ here. tt)
 
 session_quiet : (m : Meaning) (s : State) (p : ProofState) → s.open_proof ≡ Some p → IsOrdinary m → Quiet (proof_answer m s)
 unfolding proof_answer
+session_quiet (meaning.ShowNewProof only_unknown) s p was o = show_quiet s only_unknown
 session_quiet (meaning.Prove label guarded_too) s p was o = prove_quiet s label guarded_too p was
 session_quiet meaning.Undo s p was o = absurd o
 session_quiet meaning.Redo s p was o = absurd o
-session_quiet (meaning.Save normal compressed guarded_too) s p was o = save_quiet s normal compressed guarded_too
+session_quiet (meaning.Save normal compressed guarded_too) s p was o = save_quiet s compressed guarded_too
 session_quiet (meaning.Exit force) s p was o = exit_quiet s force s.open_proof
 session_quiet _ s p was o = tt
 
@@ -232,7 +234,7 @@ edits_append : (m : Meaning) (s : State) (p : ProofState) → s.open_proof ≡ S
 unfolding edit_answer
 edits_append m s p was = rows_edit (IsAppended p) _ _ (given_edit (IsAppended p) _ _ (λ here found. given_edit (IsAppended p) _ _ (λ e is.
     let same : here.1 ≡ p = some_same here.1 p (sym (proof_found s.database s.open_proof here found).1 ∙ was) in
-    subst (λ (x : ProofState). IsAppended x e.open_proof) same (appended here.0 here.1 (edit_of m here.0 here.1.theorem here.1.proof) e is))))
+    subst (λ (x : ProofState). IsAppended x e.open_proof) same (appended here.0 here.1 (edit_of m s.settings here.0 here.1.theorem here.1.proof) e is))))
 
 edit_moves : (P : ProofState → Type 0) (a : Answer) (s : State) (q : ProofState) → IsEdit P a → is_err a ≡ false → (state_after a s).open_proof ≡ Some q → P q
 edit_moves P (Ok done) s q h fine is = at done.change h is where
@@ -357,10 +359,11 @@ step_such P s a was = subst (λ (o : Option ProofState). Such P (given (found_or
 
 session_begins : (m : Meaning) (s : State) → s.open_proof ≡ None → Such (IsBegun s.undo_depth) (proof_answer m s)
 unfolding proof_answer
+session_begins (meaning.ShowNewProof only_unknown) s was = answer_such (IsBegun s.undo_depth) _ (show_quiet s only_unknown)
 session_begins (meaning.Prove label guarded_too) s was = prove_begins s label guarded_too
 session_begins meaning.Undo s was = step_such (IsBegun s.undo_depth) s undo_in was
 session_begins meaning.Redo s was = step_such (IsBegun s.undo_depth) s redo_in was
-session_begins (meaning.Save normal compressed guarded_too) s was = answer_such (IsBegun s.undo_depth) _ (save_quiet s normal compressed guarded_too)
+session_begins (meaning.Save normal compressed guarded_too) s was = answer_such (IsBegun s.undo_depth) _ (save_quiet s compressed guarded_too)
 session_begins (meaning.Exit force) s was = answer_such (IsBegun s.undo_depth) _ (exit_quiet s force s.open_proof)
 session_begins _ s was = tt
 
@@ -402,3 +405,61 @@ pub redos_are_accepted : RedosAreAccepted
 unfolding command_plan
 redos_are_accepted s map p was some = accepted meaning.Redo s map p after_redo (record { report = Redone; change = Redoes }) was refl
     (without_is (proof_answer meaning.Redo s) map ∙ redo_is s p was ∙ lone_end NothingToRedo (does Redone Redoes) (length p.future == 0) (not_empty p.future some))
+
+-- ## They take no memory and no file
+
+apart_reaches : (a : Answer) → reaches (without_files a) ≡ false
+apart_reaches (Ok done) = refl
+apart_reaches (Err r) = refl
+
+undo_takes : (o : Option ProofState) → plan_takes (without_files (given (found_or o NoProofOpen) undo_in)) ≡ false
+unfolding given unless
+undo_takes None = refl
+undo_takes (Some p) = at (length p.past == 0) where
+  at : (b : Bool) → plan_takes (without_files (lone NothingToUndo (does Undone Undoes) b)) ≡ false
+  at true = refl
+  at false = refl
+
+redo_takes : (o : Option ProofState) → plan_takes (without_files (given (found_or o NoProofOpen) redo_in)) ≡ false
+unfolding given unless
+redo_takes None = refl
+redo_takes (Some p) = at (length p.future == 0) where
+  at : (b : Bool) → plan_takes (without_files (lone NothingToRedo (does Redone Redoes) b)) ≡ false
+  at true = refl
+  at false = refl
+
+pub undos_are_free : UndosAreFree
+unfolding command_plan proof_answer
+undos_are_free s map = (ap not (undo_takes s.open_proof), apart_reaches (undo s))
+
+pub redos_are_free : RedosAreFree
+unfolding command_plan proof_answer
+redos_are_free s map = (ap not (redo_takes s.open_proof), apart_reaches (redo s))
+
+-- ## Where they lead
+
+undo_accepted : (s : State) (map : Map) (p : ProofState) → s.open_proof ≡ Some p → is_err (answer_in (command_plan meaning.Undo s) map) ≡ false → 1 ≤ length p.past
+unfolding command_plan
+undo_accepted s map p was fine =
+    has_some p.past (lone_fails NothingToUndo (does Undone Undoes) (length p.past == 0)
+    (sym (ap is_err (without_is (proof_answer meaning.Undo s) map ∙ undo_is s p was)) ∙ fine))
+
+redo_accepted : (s : State) (map : Map) (p : ProofState) → s.open_proof ≡ Some p → is_err (answer_in (command_plan meaning.Redo s) map) ≡ false → 1 ≤ length p.future
+unfolding command_plan
+redo_accepted s map p was fine =
+    has_some p.future (lone_fails NothingToRedo (does Redone Redoes) (length p.future == 0)
+    (sym (ap is_err (without_is (proof_answer meaning.Redo s) map ∙ redo_is s p was)) ∙ fine))
+
+pub undos_lead_back : UndosLeadBack
+undos_lead_back s map Fine p was fine =
+    let a : IsAccepted meaning.Undo s map = undos_are_accepted s map p was (undo_accepted s map p was fine) in
+    record { now = a.now; is = a.is; moved = histories_move meaning.Undo s map Fine p a.now was a.accepted a.is }
+undos_lead_back s map Starved p was fine = absurd (true≢false fine)
+undos_lead_back s map Faulted p was fine = absurd (true≢false fine)
+
+pub redos_lead_forward : RedosLeadForward
+redos_lead_forward s map Fine p was fine =
+    let a : IsAccepted meaning.Redo s map = redos_are_accepted s map p was (redo_accepted s map p was fine) in
+    record { now = a.now; is = a.is; moved = histories_move meaning.Redo s map Fine p a.now was a.accepted a.is }
+redos_lead_forward s map Starved p was fine = absurd (true≢false fine)
+redos_lead_forward s map Faulted p was fine = absurd (true≢false fine)

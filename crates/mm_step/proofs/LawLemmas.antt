@@ -1,17 +1,15 @@
 -- The laws over every line, by those of each change.
-use Rattle.std.proofs.Common.{◌≡◌, ℕ, Bool, true, false, is_err, List, [], ◌∷◌, Option, None, Some, Result, Ok, Err, refl, sym, ◌∙◌, ap, subst}
+use Rattle.std.proofs.Common.{◌≡◌, ℕ, true, false, is_err, List, Option, None, Some, Ok, Err, refl, sym, ◌∙◌, ap, subst}
 use Rattle.mm_base.specs.Files.{Map}
-use Rattle.mm_command.specs.Meanings as meaning
 use Rattle.mm_command.specs.Meanings.{Meaning}
-use Rattle.mm_shell.specs.Actions.{Origin, Nowhere, File, Action, Does, Fetches, Puts, Plan, answer_in, origin_in, put_by, without_files}
+use Rattle.mm_shell.specs.Actions.{Origin, File, Does, Fetches, Puts, Plan, answer_in, origin_in, put_by}
 use Rattle.mm_shell.specs.Answers.{Answer}
 use Rattle.mm_shell.specs.Changes.{state_after}
 use Rattle.mm_shell.specs.Fitting.{Fits, MadeIn, PlanFits}
 use Rattle.mm_shell.specs.Sound.{IsSound}
 use Rattle.mm_shell.specs.declared.state.State.{State}
-use Rattle.mm_shell.specs.declared.answer.Done.{Done}
 use Rattle.mm_shell.specs.declared.refusal.Refusal.{Refusal}
-use Rattle.mm_shell.specs.declared.refusal.Refusal.TheVariants.{LineTooLong, WrongWord, OutOfMemory, FileFault}
+use Rattle.mm_shell.specs.declared.refusal.Refusal.TheVariants.{LineTooLong, WrongWord}
 use Rattle.mm_shell.proofs.FitLemmas.{answer_plan}
 use Rattle.mm_shell.proofs.FrameLemmas as frame
 use Rattle.mm_database_commands.specs.Commands.{database_plan}
@@ -23,9 +21,9 @@ use Rattle.mm_edit_commands.proofs.EditFits.{edit_fits}
 use Rattle.mm_proof_commands.specs.Commands.{proof_answer}
 use Rattle.mm_proof_commands.proofs.ProofFits.{proof_fits}
 use Rattle.mm_step.specs.Asked.{Asked, TooLong, Wrong, Asks}
-use Rattle.mm_step.specs.Effects.{Effect, Outcome, Fine, Starved, Faulted, plan_in, command_plan, plan_of, effect_in, asked_effect}
+use Rattle.mm_step.specs.Effects.{Fine, Starved, Faulted, plan_in, command_plan, plan_of}
 use Rattle.mm_step.specs.Groups.{group_of}
-use Rattle.mm_step.specs.Laws.{effect_on, StaysSound, ChangesNothing, RefusedChangesNothing, OnlySavesChange, SavedTheoremsHold, ComesFrom, ByReading, DatabasesComeByReading, PutsTheDatabase, EndsSilently, ReportsHold, SavesCanBeMade}
+use Rattle.mm_step.specs.Laws.{StaysSound, RefusedChangesNothing, OnlySavesChange, SavedTheoremsHold, ComesFrom, ByReading, DatabasesComeByReading, PutsTheDatabase, EndsSilently, ReportsHold, SavesCanBeMade}
 use Rattle.mm_step.specs.declared.group.Group.{Group}
 use Rattle.mm_step.specs.declared.group.Group.TheVariants as group
 

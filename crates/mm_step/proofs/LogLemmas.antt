@@ -1,5 +1,5 @@
 -- Which lines open a log, and which close it.
-use Rattle.std.proofs.Common.{◌≡◌, ℕ, Bool, true, false, not, is_err, List, [], ◌∷◌, Option, None, Some, Result, Ok, Err, refl, sym, ◌∙◌, ap, subst}
+use Rattle.std.proofs.Common.{◌≡◌, ℕ, Bool, true, false, not, is_err, List, [], ◌∷◌, Option, None, Some, Result, Ok, Err, refl, sym, subst}
 use Rattle.mm_base.specs.Files.{Map}
 use Rattle.mm_base.specs.declared.files.Files.{Ghosts as FilesOf}
 use Rattle.mm_command.specs.Meanings as meaning
@@ -17,8 +17,8 @@ use Rattle.mm_database_commands.specs.Commands.{verify, trace_back, usage, datab
 use Rattle.mm_setting_commands.specs.Commands.{setting_answer}
 use Rattle.mm_edit_commands.specs.Edits.{edit_answer}
 use Rattle.mm_proof_commands.specs.Commands.{exit_by, proof_answer}
-use Rattle.mm_step.specs.Asked.{Asked, TooLong, Wrong, Asks, asked_of}
-use Rattle.mm_step.specs.Effects.{Outcome, Fine, Starved, Faulted, plan_in, command_plan, step_of, outcome, is_refused}
+use Rattle.mm_step.specs.Asked.{TooLong, Wrong, Asks, asked_of}
+use Rattle.mm_step.specs.Effects.{Fine, Starved, Faulted, plan_in, command_plan, step_of, outcome, is_refused}
 use Rattle.mm_step.specs.Groups.{group_of}
 use Rattle.mm_step.specs.Laws.{LogsChange, effect_on}
 use Rattle.mm_step.specs.Logs.{IsLogChange, log_change}
@@ -98,11 +98,12 @@ exit_keeps s force None = rows_keep s _ _ refl
 proof_keeps : (m : Meaning) (s : State) → Keeps s (proof_answer m s)
 unfolding proof_answer
 proof_keeps meaning.Nothing s = refl
+proof_keeps (meaning.ShowNewProof only_unknown) s = given_keep s _ _ (λ here. refl)
 proof_keeps (meaning.Prove label guarded_too) s = rows_keep s _ _ (given_keep s _ _ (λ bytes. given_keep s _ _ (λ id. rows_keep s _ _ refl)))
 proof_keeps meaning.Undo s = given_keep s _ _ (λ p. rows_keep s _ _ refl)
 proof_keeps meaning.Redo s = given_keep s _ _ (λ p. rows_keep s _ _ refl)
 proof_keeps (meaning.Save normal compressed guarded_too) s =
-    rows_keep s _ _ (given_keep s _ _ (λ here. rows_keep s _ _ (given_keep s _ _ (λ some_unknown. given_keep s _ _ (λ new. refl)))))
+    given_keep s _ _ (λ here. rows_keep s _ _ (given_keep s _ _ (λ some_unknown. given_keep s _ _ (λ new. refl))))
 proof_keeps (meaning.Exit force) s = exit_keeps s force s.open_proof
 proof_keeps _ s = refl
 

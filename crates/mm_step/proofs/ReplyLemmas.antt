@@ -1,9 +1,9 @@
 -- What is told of answers and refusals.
-use Rattle.std.proofs.Common.{◌≡◌, ◌≢◌, ◌≤◌, ℕ, Bool, true, false, Bor, is_err, List, Option, Result, Ok, Err, refl, sym, ◌∙◌, ap, subst, arith, ◌||◌, true≢false}
+use Rattle.std.proofs.Common.{◌≡◌, ◌≢◌, ℕ, Bool, true, false, List, Ok, Err, refl, sym, ◌∙◌, ap, subst, arith, ◌||◌, true≢false}
 use Rattle.mm_base.specs.Outside.{CountsFaults}
-use Rattle.mm_shell.specs.Actions.{without_files, plan_takes}
-use Rattle.mm_shell.specs.Answers.{Answer, Answers, refusal_takes, report_takes, change_takes, takes}
-use Rattle.mm_shell.specs.Texts.{refusal_text, report_text, counts_text}
+use Rattle.mm_shell.specs.Answers.{Answer, Answers, report_takes, change_takes, takes}
+use Rattle.mm_shell.specs.Lines.{counts_text}
+use Rattle.mm_shell.specs.Texts.{report_text}
 use Rattle.mm_shell.specs.declared.refusal.Refusal.{Refusal}
 use Rattle.mm_shell.specs.declared.refusal.Refusal.TheVariants as refusal
 use Rattle.mm_shell.specs.declared.report.Report.TheVariants.{Counts as Counted}

@@ -1,14 +1,14 @@
 -- That a line has had its effect.
-use Rattle.std.proofs.Common.{◌≡◌, ◌≢◌, ◌≤◌, ◌+◌, not, is_err, ℕ, Bool, true, false, IsTrue, List, [], min, Option, Some, None, Result, Ok, Err, refl, sym, ◌∙◌, ap, subst, arith, inl, inr}
+use Rattle.std.proofs.Common.{◌≡◌, ◌≢◌, not, ℕ, Bool, true, false, IsTrue, List, [], Option, Some, None, Result, Ok, Err, refl, sym, ◌∙◌, ap, subst, inl, inr}
 use Rattle.std.proofs.lemmas.Bool.{cases_lt}
 use Rattle.mm_base.specs.Files.{Map, Numbers, KeepsMap, Puts as PutsIn, put_on_ok, has_failed}
 use Rattle.mm_base.specs.declared.fault.FilesFault.{FilesFault}
 use Rattle.mm_base.specs.declared.fault.FilesFault.TheVariants as files_fault
 use Rattle.mm_base.specs.declared.files.Files.{Ghosts as FilesOf}
-use Rattle.mm_shell.specs.Actions.{Action, Does, Fetches, Puts, Plan, answer_in, plan_takes, put_by, reaches, without_files}
+use Rattle.mm_shell.specs.Actions.{Does, Fetches, Puts, Plan, plan_takes, reaches, without_files}
 use Rattle.mm_shell.specs.Answers.{Answer, Gives, takes, refusal_takes}
-use Rattle.mm_shell.specs.Changes.{apply_change, state_after}
-use Rattle.mm_shell.specs.Texts.{text_of as answer_text, report_text}
+use Rattle.mm_shell.specs.Changes.{apply_change}
+use Rattle.mm_shell.specs.Texts.{report_text}
 use Rattle.mm_shell.specs.declared.answer.Change.{Change}
 use Rattle.mm_shell.specs.declared.answer.Done.{Done}
 use Rattle.mm_shell.specs.declared.refusal.Refusal.{Refusal}
@@ -21,7 +21,7 @@ use Rattle.mm_step.specs.Asked.{Asked, asked_of}
 use Rattle.mm_step.specs.Calls.{Calls}
 use Rattle.mm_step.specs.Groups.{group_of}
 use Rattle.mm_step.specs.declared.group.Group.{Group}
-use Rattle.mm_step.proofs.ReplyLemmas.{refused_replies, reply_sound}
+use Rattle.mm_step.proofs.ReplyLemmas.{refused_replies}
 use Rattle.mm_step.specs.Effects.{Effect, Fine, Starved, Faulted, Outcome, Meets, effect_by, effect_in, plan_in, plan_of, command_plan, step_of, ended, outcome, is_faulted, with_puts, add_put}
 use Rattle.mm_step.specs.Ran.{HasRun, Told, reply_in, state_in, Performs, Refuses, Replies, Tells}
 use Rattle.mm_step.specs.declared.reply.Reply.{Reply}

@@ -1,5 +1,5 @@
 -- The calls that a line makes on the files.
-use Rattle.std.specs.Prelude.{◌≡◌, ◌≢◌, ◌<◌, ◌≤◌, ◌+◌, ◌⊎◌, ℕ, Bool, true, false, IsTrue, List, Contains, min}
+use Rattle.std.specs.Prelude.{◌≡◌, ◌≢◌, ◌<◌, ◌+◌, ◌⊎◌, ℕ, Bool, true, false, IsTrue, List, Contains, min}
 use Rattle.mm_base.specs.declared.files.Files.{Ghosts as FilesOf}
 use Rattle.mm_step.specs.declared.reply.Reply.{Reply}
 use Rattle.mm_step.specs.Effects.{outcome, Starved, Faulted}

@@ -1,5 +1,5 @@
 -- What one line does, and how it may end.
-use Rattle.std.specs.Prelude.{◌≡◌, not, is_err, ℕ, Bool, true, false, List, [], ◌∷◌, Option, Some, None, Result, Ok, Err}
+use Rattle.std.specs.Prelude.{◌≡◌, not, is_err, ℕ, Bool, true, false, List, [], ◌∷◌, Option, Some, None, Err}
 use Rattle.mm_base.specs.Files.{Map, put}
 use Rattle.mm_command.specs.Meanings.{Meaning}
 use Rattle.mm_shell.specs.Actions.{Plan, answer_in, plan_takes, put_by, reaches, without_files}

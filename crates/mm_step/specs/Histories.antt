@@ -1,5 +1,5 @@
 -- What lines make of the history of the open proof.
-use Rattle.std.specs.Prelude.{◌≡◌, ◌≤◌, ℕ, true, false, List, [], ◌∷◌, ◌++◌, length, Option, None, Some}
+use Rattle.std.specs.Prelude.{◌≡◌, ◌≤◌, ℕ, true, false, [], ◌∷◌, ◌++◌, length, None, Some}
 use Rattle.circular_buffer.specs.Buffer.{keep_last}
 use Rattle.mm_base.specs.Files.{Map}
 use Rattle.mm_command.specs.Meanings.{Meaning, Undo, Redo, SetUndo}
@@ -7,7 +7,7 @@ use Rattle.mm_undo.specs.Histories.{IsRedone, IsUndone}
 use Rattle.mm_shell.specs.OpenProofs.{ProofState, lists_in}
 use Rattle.mm_shell.specs.declared.state.State.{State}
 use Rattle.mm_step.specs.Asked.{Asks}
-use Rattle.mm_step.specs.Effects.{Outcome, Fine}
+use Rattle.mm_step.specs.Effects.{Effect, Outcome, Fine, asked_effect}
 use Rattle.mm_step.specs.Groups.{group_of}
 use Rattle.mm_step.specs.Laws.{effect_on}
 use Rattle.mm_step.specs.declared.group.Group.{Group}
@@ -73,3 +73,23 @@ UndosAreAccepted = (s : State) (map : Map) (p : ProofState) → s.open_proof ≡
 
 abbrev pub RedosAreAccepted : Type 0
 RedosAreAccepted = (s : State) (map : Map) (p : ProofState) → s.open_proof ≡ Some p → 1 ≤ length p.future → IsAccepted Redo s map
+
+-- They take no memory, and reach no file.
+abbrev pub UndosAreFree : Type 0
+UndosAreFree = (s : State) (map : Map) → ((asked_effect (Asks Undo) s map).free ≡ true) × ((asked_effect (Asks Undo) s map).reaches_files ≡ false)
+
+abbrev pub RedosAreFree : Type 0
+RedosAreFree = (s : State) (map : Map) → ((asked_effect (Asks Redo) s map).free ≡ true) × ((asked_effect (Asks Redo) s map).reaches_files ≡ false)
+
+-- the proof stays open, and its history moves so
+pub record StaysOpen (m : Meaning) (p : ProofState) (effect : Effect) : Type 0 where
+  pub now : ProofState
+  pub is : effect.state.open_proof ≡ Some now
+  pub moved : IsMoved m p now
+
+-- An UNDO that is accepted leads back, and a REDO forward.
+abbrev pub UndosLeadBack : Type 0
+UndosLeadBack = (s : State) (map : Map) (outcome : Outcome) (p : ProofState) → s.open_proof ≡ Some p → (effect_on (Asks Undo) s map outcome).refused ≡ false → StaysOpen Undo p (effect_on (Asks Undo) s map outcome)
+
+abbrev pub RedosLeadForward : Type 0
+RedosLeadForward = (s : State) (map : Map) (outcome : Outcome) (p : ProofState) → s.open_proof ≡ Some p → (effect_on (Asks Redo) s map outcome).refused ≡ false → StaysOpen Redo p (effect_on (Asks Redo) s map outcome)

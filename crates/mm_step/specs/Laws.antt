@@ -1,5 +1,5 @@
 -- What holds of every line, however it ends.
-use Rattle.std.specs.Prelude.{◌≡◌, ℕ, Bool, true, false, List, [], Option, None, Some, Ok}
+use Rattle.std.specs.Prelude.{◌≡◌, ℕ, Bool, true, false, List, [], None, Some, Ok}
 use Rattle.mm_base.specs.Files.{Map}
 use Rattle.mm_command.specs.Meanings.{Read, WriteSource}
 use Rattle.mm_shell.specs.Saves.{HoldsIn, last_complete, saved_by, with_save}
@@ -9,7 +9,7 @@ use Rattle.mm_shell.specs.declared.answer.Done.{Done}
 use Rattle.mm_shell.specs.declared.state.State.{State}
 use Rattle.mm_step.specs.Asked.{Asked, Asks}
 use Rattle.mm_step.specs.Logs.{IsLogChange, log_change}
-use Rattle.mm_step.specs.Effects.{Effect, Outcome, Fine, asked_effect, ended}
+use Rattle.mm_step.specs.Effects.{Effect, Outcome, asked_effect, ended}
 
 -- the effect of what is asked, where it ends so
 abbrev pub effect_on : Asked → State → Map → Outcome → Effect

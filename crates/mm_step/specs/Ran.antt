@@ -1,5 +1,5 @@
 -- What a line has done.
-use Rattle.std.specs.Prelude.{◌≡◌, ◌||◌, is_err, ℕ, Bool, true, false, IsTrue, List, [], Result, Ok, Err}
+use Rattle.std.specs.Prelude.{◌≡◌, is_err, ℕ, true, false, IsTrue, List, [], Result, Ok, Err}
 use Rattle.mm_base.specs.declared.files.Files.{Ghosts as FilesOf}
 use Rattle.mm_base.specs.Files.{Map}
 use Rattle.mm_shell.specs.Actions.{Plan}
@@ -13,7 +13,7 @@ use Rattle.mm_shell.specs.declared.state.State.{State}
 use Rattle.mm_step.specs.declared.reply.Reply.{Reply}
 use Rattle.mm_step.specs.declared.reply.Reply.TheVariants as reply
 use Rattle.mm_step.specs.Calls.{Calls}
-use Rattle.mm_step.specs.Effects.{Effect, Meets, effect_in, ended, outcome, with_puts, add_put, is_faulted}
+use Rattle.mm_step.specs.Effects.{Effect, Meets, effect_in, ended, outcome, with_puts, add_put}
 
 -- The line has had its effect over some map: over the files' own, where they tell it.
 pub record HasRun {F : Type 0} (fs : FilesOf F) (effect : Map → Effect) (before : State) (old : F) (reply : Reply) (after : State) (new : F) : Type 0 where

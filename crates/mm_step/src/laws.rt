@@ -1,6 +1,6 @@
 //! What holds of every line, however it ends.
 
-ghost use Rattle.mm_step.specs.Histories.{HistoriesBegin, HistoriesMove, RedosAreAccepted, UndosAreAccepted};
+ghost use Rattle.mm_step.specs.Histories.{HistoriesBegin, HistoriesMove, RedosAreAccepted, RedosAreFree, RedosLeadForward, UndosAreAccepted, UndosAreFree, UndosLeadBack};
 ghost use Rattle.mm_step.specs.Laws.{DatabasesComeByReading, EndsSilently, LogsChange, OnlySavesChange, PutsTheDatabase, RefusedChangesNothing, ReportsHold, SavesCanBeMade, SavedTheoremsHold, StaysSound};
 
 /// The database is always one that is read, and the open proof is a valid proof of a theorem of it, as is each proof that it
@@ -46,10 +46,15 @@ pub fn saved_theorems_hold()
 /// An accepted edit appends the old proof to the past, drops the oldest beyond the depth and empties the future. UNDO puts the
 /// last of the past in hand, and the proof that was in hand to the front of the future; REDO does the reverse. SET UNDO n keeps
 /// the newest n of the past and empties the future. No other command changes the history of a proof that stays open, and
-/// PROVE begins with an empty one. UNDO and REDO are accepted where there is a past, and a future.
+/// PROVE begins with an empty one. UNDO and REDO are accepted where there is a past, and a future; they take no memory, and
+/// the proof stays open.
 pub fn histories_move()
     ensures moved { HistoriesMove }
     ensures begun { HistoriesBegin }
     ensures undone { UndosAreAccepted }
     ensures redone { RedosAreAccepted }
+    ensures undone_free { UndosAreFree }
+    ensures redone_free { RedosAreFree }
+    ensures back { UndosLeadBack }
+    ensures forward { RedosLeadForward }
 {}

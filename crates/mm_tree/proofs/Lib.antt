@@ -16,3 +16,7 @@ pub mod Bared
 pub mod Parted
 pub mod Later
 pub mod Floating
+pub mod RowLemmas
+pub mod BegunLemmas
+pub mod FreshVariables
+pub mod Renewed

@@ -5,14 +5,19 @@
 //! what the bindings of a version since then make of it is found when it is read.
 #![tactic(auto)]
 
+mod drawing;
 mod fault;
 mod floats;
+mod fresh;
 mod graft;
+mod labelled;
 mod lengths;
 mod line;
 mod node;
 mod occurring;
 mod premises;
+mod renewal;
+mod rows;
 mod sources;
 #[cfg(test)]
 mod tests;
@@ -21,6 +26,8 @@ mod tree;
 mod writing;
 
 pub use fault::{BindFault, GraftFault, WorkSpent};
+pub use fresh::{fresh_from, variables_for};
+pub use labelled::OfLabelsFault;
 pub use premises::premises as hypotheses;
 pub use std::alloc::AllocError as Memory;
 pub use tree::{MOST_LEVELS, MOST_STEPS, MOST_WORKS, Mark, Tree};

@@ -40,7 +40,12 @@ pub fn levels_over(premises: &[u32]) -> u64
 }
 
 /// A premise under a substitution.
-fn goal(alloc: Global, db: &Database, sigma: &Subst, premise: StmtId) -> Result<WStr, AllocError>
+pub fn goal(
+    alloc: Global,
+    db: &Database,
+    sigma: &Subst,
+    premise: StmtId,
+) -> Result<WStr, AllocError>
     requires own { premise.0 < length (labels_of db.now) }
     requires short { length (applied sigma.now (statement_of db.now premise.0)) ≤ 32768 }
     ensures { IfOk result (λ s. s ≡ applied sigma.now (statement_of db.now premise.0)) }

@@ -36,11 +36,12 @@ Then the lines of the input are commands, up to EXIT or its end.
 ";
 
 /// Each command that is built, and what it does.
-const COMMANDS: [&str; 17] = [
+const COMMANDS: [&str; 27] = [
     "READ FILE                        reads a database",
     "VERIFY PROOF PATTERN             verifies the proofs of theorems",
     "SHOW TRACE_BACK LABEL [/AXIOMS]  lists what a statement depends on",
     "SHOW USAGE LABEL [/RECURSIVE]    lists what uses a statement, or depends on it",
+    "SHOW NEW_PROOF [/UNKNOWN]        shows the steps of the proof in hand",
     "WRITE SOURCE FILE                writes the database",
     "SET UNDO N                       keeps N edits to undo, from 0 to 1000",
     "SET UNIFICATION_TIMEOUT N        sets the trials of a search for unifiers",
@@ -49,10 +50,19 @@ const COMMANDS: [&str; 17] = [
     "OPEN LOG FILE                    keeps what is printed from here on in the file too",
     "CLOSE LOG                        ends the log",
     "PROVE LABEL [/OVERRIDE]          takes a proof in hand that is ? alone",
-    "ASSIGN LAST LABEL [/OVERRIDE]    makes its last unknown step known, by a statement",
+    "ASSIGN STEP LABEL [/OVERRIDE]    makes an unknown step known, by a statement",
+    "LET VARIABLE $N = TEXT           puts a text for a work variable",
+    "LET STEP STEP = TEXT             unifies what a step says with a text",
+    "UNIFY STEP STEP [/CHOICE N]      unifies a pending step",
+    "UNIFY ALL                        unifies each pending step that has one unifier",
+    "INITIALIZE STEP STEP             gives the known steps of a part fresh work variables",
+    "INITIALIZE ALL                   gives all known steps fresh work variables",
+    "DELETE STEP STEP                 makes a step unknown",
+    "DELETE ALL                       makes all steps unknown",
+    "DELETE FLOATING_HYPOTHESES       makes the steps of $f hypotheses unknown",
     "UNDO                             takes the last edit back",
     "REDO                             does it again",
-    "SAVE NEW_PROOF [/OVERRIDE]       saves the proof into the database",
+    "SAVE NEW_PROOF [/NORMAL] [/COMPRESSED] [/OVERRIDE]  saves the proof into the database",
     "EXIT [/FORCE], QUIT [/FORCE]     leaves the proof in hand, or ends the session",
 ];
 

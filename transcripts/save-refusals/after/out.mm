@@ -7,5 +7,5 @@ $d x y $.
 ne $a |- x = y $.
 $( (Proof modification is discouraged.) $)
 g $p |- x = y $=
-      ? ? ne $.
+      vx vy ne $.
 $}

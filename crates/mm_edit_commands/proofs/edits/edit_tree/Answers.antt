@@ -4,3 +4,7 @@ use Rattle.mm_edit_commands.proofs.edits.edit_tree.Goals as goal
 pub returns-in-Assign-clause-edited : goal.returns-in-Assign-clause-edited
 unfolding edit_of
 returns-in-Assign-clause-edited g c = rw c.in-Assign.is c.assign.ensures.edited
+
+pub returns-in-UnifyStep-clause-edited : goal.returns-in-UnifyStep-clause-edited
+unfolding edit_of
+returns-in-UnifyStep-clause-edited g c = rw c.in-UnifyStep.is c.unify_step.ensures.edited

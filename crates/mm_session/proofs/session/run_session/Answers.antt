@@ -1,4 +1,4 @@
-use Rattle.std.proofs.Common.{rules, refl, sym, ◌∙◌, ap, subst}
+use Rattle.std.proofs.Common.{refl, sym, ◌∙◌, ap, subst}
 use Rattle.mm_session.specs.declared.session.SessionEnd.{SessionEnd}
 use Rattle.mm_shell.specs.declared.state.State.{State}
 use Rattle.mm_session.specs.Headline.{IsSession, KeepsLogs}
@@ -8,6 +8,7 @@ use Rattle.mm_session.proofs.SoundLemmas.{session_is_sound}
 use Rattle.mm_session.proofs.OriginLemmas.{databases_are_from_files}
 use Rattle.mm_session.proofs.SavesLemmas.{puts_the_database, written_theorems_hold}
 use Rattle.mm_session.proofs.TurnLemmas.{keeps_logs, keeps_none, session_begins, session_starves, stands_sound}
+use Rattle.mm_session.proofs.UndoLemmas.{edits_are_undone, redos_are_accepted, redos_lead_forward, undos_are_accepted, undos_lead_back}
 use Rattle.mm_session.proofs.session.run_session.Goals as goal
 
 pub returns-in-Err-clause-session : goal.returns-in-Err-clause-session
@@ -101,3 +102,33 @@ returns-in-Ended-clause-logs g c =
     rw (c.ended-in-Ended.ensures, c.end.ensures.screen)
     (keeps_logs g.F.Files g.S.Source g.K.Sink rc c.args.words.now c.args.files.now c.args.input.now c.new-output.result.screen.now (recording c.new-output.result.recorders.now) _ c.take_turn.new.files c.take_turn.new.input c.take_turn.new.output.screen.now _ _ (rw c.new-output.ensures.recorders c.requires.closed) says c.end.ensures.heard) in
     rw (c.screen-1.given.1 (sym (c.end.ensures.same ∙ (c.take_turn.ensures.same ∙ (c.loop-status.invariant.3 ∙ c.new-output.ensures.same)))), c.recorders-1.given.1 (sym (c.end.ensures.same_too ∙ (c.take_turn.ensures.same_too ∙ (c.loop-status.invariant.4 ∙ c.new-output.ensures.same_too)))), ← c.new-output.ensures.screen, ← c.new-output.ensures.recorders) fact
+
+pub returns-in-Err-clause-undone : goal.returns-in-Err-clause-undone
+returns-in-Err-clause-undone g c = edits_are_undone
+
+pub returns-in-Ended-clause-undone : goal.returns-in-Ended-clause-undone
+returns-in-Ended-clause-undone g c = edits_are_undone
+
+pub returns-in-Err-clause-back : goal.returns-in-Err-clause-back
+returns-in-Err-clause-back g c = undos_lead_back
+
+pub returns-in-Ended-clause-back : goal.returns-in-Ended-clause-back
+returns-in-Ended-clause-back g c = undos_lead_back
+
+pub returns-in-Err-clause-forward : goal.returns-in-Err-clause-forward
+returns-in-Err-clause-forward g c = redos_lead_forward
+
+pub returns-in-Ended-clause-forward : goal.returns-in-Ended-clause-forward
+returns-in-Ended-clause-forward g c = redos_lead_forward
+
+pub returns-in-Err-clause-undo_accepted : goal.returns-in-Err-clause-undo_accepted
+returns-in-Err-clause-undo_accepted g c = undos_are_accepted
+
+pub returns-in-Ended-clause-undo_accepted : goal.returns-in-Ended-clause-undo_accepted
+returns-in-Ended-clause-undo_accepted g c = undos_are_accepted
+
+pub returns-in-Err-clause-redo_accepted : goal.returns-in-Err-clause-redo_accepted
+returns-in-Err-clause-redo_accepted g c = redos_are_accepted
+
+pub returns-in-Ended-clause-redo_accepted : goal.returns-in-Ended-clause-redo_accepted
+returns-in-Ended-clause-redo_accepted g c = redos_are_accepted

@@ -1,4 +1,3 @@
-use Rattle.std.proofs.Common.{subst, sym}
 use Rattle.mm_command.specs.Meanings.{meaning_of}
 use Rattle.mm_setting_commands.specs.Commands.{setting_answer}
 use Rattle.mm_step.proofs.ReplyLemmas.{answer_changed}

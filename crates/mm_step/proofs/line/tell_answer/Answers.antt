@@ -1,4 +1,3 @@
-use Rattle.std.proofs.Common.{subst}
 use Rattle.mm_command.specs.Meanings.{meaning_of}
 use Rattle.mm_proof_commands.specs.Commands.{proof_answer}
 use Rattle.mm_step.proofs.ReplyLemmas.{answer_told, refusal_told}

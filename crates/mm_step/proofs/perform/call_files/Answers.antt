@@ -1,4 +1,3 @@
-use Rattle.std.proofs.Common.{sym}
 use Rattle.mm_step.proofs.ReplyLemmas.{counts_still, told_sound}
 use Rattle.mm_step.proofs.RunLemmas.{tells_apart}
 use Rattle.mm_step.proofs.perform.call_files.Goals as goal

@@ -1,0 +1,12 @@
+use Rattle.std.proofs.Common.{sym, ◌∙◌}
+use Rattle.mm_edit.specs.Letting.{variable_let}
+use Rattle.mm_edit_commands.proofs.EditLemmas.{let_given, let_refused}
+use Rattle.mm_edit_commands.proofs.let_text.let_variable.Goals as goal
+
+pub returns-in-Err-clause-edited : goal.returns-in-Err-clause-edited
+returns-in-Err-clause-edited g c =
+    let_refused c.args.database.now c.args.theorem.0 c.args.tree.now.proof c.args.text.now c.args.word c.args.number (variable_let c.args.database.now c.args.tree.now.proof c.args.number) (sym c.is_empty.ensures ∙ c.if-is_empty.false) c.in-Err.refusal c.in-Err.ensures
+
+pub returns-in-Ok-clause-edited : goal.returns-in-Ok-clause-edited
+returns-in-Ok-clause-edited g c =
+    let_given c.args.database.now c.args.theorem.0 c.args.tree.now.proof c.args.text.now c.args.word c.args.number (variable_let c.args.database.now c.args.tree.now.proof c.args.number) (sym c.is_empty.ensures ∙ c.if-is_empty.false) c.in-Ok.value c.let_variable_be.result c.let_variable_be.new.tree.proof c.in-Ok.ensures c.let_variable_be.ensures.edited
