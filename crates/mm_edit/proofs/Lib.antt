@@ -1,13 +1,4 @@
-pub mod Members
-pub mod Tests
-pub mod Ways
-pub mod Last
-pub mod Measures
-pub mod Fitting
-pub mod Outcomes
-pub mod Naming
 pub mod Marks
-pub mod Kept
 pub mod Pending
 pub mod Unifiers
 pub mod Applied
@@ -26,3 +17,8 @@ pub mod UnifyLemmas
 pub mod FirstLemmas
 pub mod FreshLemmas
 pub mod RoundLemmas
+pub mod LabelLists
+pub mod LoadLemmas
+pub mod LabelTreeLemmas
+pub mod LoadedLemmas
+pub mod LoadValid

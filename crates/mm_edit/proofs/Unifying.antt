@@ -29,7 +29,7 @@ known-there : (x : Plain) (k : ℕ) → is_unknown x k ≡ false → is_none (la
 known-there x k h = h
 
 -- a unifier of the strings of a good step binds strings of the setting
-binding-good : (bytes : List ℕ) (at : ℕ) (set : Settings) (p : Proof) (y : Plain) (choice : Option ℕ) (u : Pairs) → IsGood (setting_of bytes at p) y → is_pending bytes y ≡ true
+pub binding-good : (bytes : List ℕ) (at : ℕ) (set : Settings) (p : Proof) (y : Plain) (choice : Option ℕ) (u : Pairs) → IsGood (setting_of bytes at p) y → is_pending bytes y ≡ true
     → chosen choice (listed_at bytes set y) ≡ Ok u → IsBinding (setting_of bytes at p) u
 unfolding is_pending
 binding-good bytes at set p y choice u g w e = go (source_of bytes y) refl w e

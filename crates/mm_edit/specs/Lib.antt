@@ -1,6 +1,3 @@
-pub mod Ways
-pub mod Outcome
-pub mod Faults
 pub mod Counts
 pub mod Steps
 pub mod Listed
@@ -14,3 +11,5 @@ pub mod Deleting
 pub mod Keeping
 pub mod Edited
 pub mod Trying
+pub mod Labelling
+pub mod Loading

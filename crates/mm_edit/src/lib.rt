@@ -2,27 +2,26 @@
 #![tactic(auto)]
 
 mod assign_step;
-mod assignment;
 mod checks;
 mod deletion;
 mod edit_fault;
-mod fault;
 mod fresh;
 mod going_back;
 mod initialization;
+mod label_list;
 mod laws;
 mod let_value;
 mod listing;
+mod loading;
 mod unification;
 mod unify_rounds;
 
 pub use assign_step::assign;
-pub use assignment::assign_only_match;
 pub use deletion::{delete, delete_floats};
 pub use edit_fault::EditFault;
-pub use fault::AssignFault;
 pub use initialization::{initialize, initialize_all};
 pub use laws::{accepted_edits_keep_proofs_valid, unify_all_leaves_no_only_unifier};
 pub use let_value::{let_step, let_variable};
+pub use loading::{LoadFault, load};
 pub use unification::{UnifyFault, unify_step};
 pub use unify_rounds::unify_all;

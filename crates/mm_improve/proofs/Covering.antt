@@ -1,17 +1,16 @@
 -- What a match of a pattern has for each variable that occurs.
-use Rattle.std.proofs.Common.{◌≡◌, ℕ, zero, suc, ◌+◌, ◌<◌, List, [], ◌∷◌, ◌++◌, Option, None, Some, Bool, true, false, cond, refl, sym, ◌∙◌, ap, arith, eqb, inl, inr, ◌⊎◌, subst, length, get_or, map, take, drop}
-use Rattle.std.specs.List.{flat_map}
+use Rattle.std.proofs.Common.{◌≡◌, ℕ, suc, List, [], ◌∷◌, ◌++◌, Option, None, Some, Bool, false, cond, refl, sym, ◌∙◌, ap, inl, inr, subst, length, take, drop}
 use Rattle.mm_subst.specs.declared.symbol.WSym.{WSym}
 use Rattle.mm_subst.specs.declared.symbol.WSym.TheVariants.{Const, Var, Work}
 use Rattle.mm_subst.specs.Symbols.{is_work, has_work}
-use Rattle.mm_subst.specs.Substitutions.{Pairs, value_at, value_of, or_itself, applied}
+use Rattle.mm_subst.specs.Substitutions.{Pairs, value_at, or_itself, applied}
 use Rattle.mm_subst.proofs.Replaced.{applied-nil, applied-cons}
-use Rattle.mm_unify.specs.Matching.{lengths, behind, onward, by_value, matches}
+use Rattle.mm_unify.specs.Matching.{behind, onward, by_value, matches}
 use Rattle.mm_unify.proofs.Sorted.{Among, among_some_length}
 use Rattle.mm_plain.specs.Drawing.{fresh_from}
 use Rattle.mm_improve.specs.Options.{on}
 use Rattle.mm_improve.specs.Items.{value}
-use Rattle.mm_improve.specs.Grammars.{place, with_variable, seen_with, seen_in}
+use Rattle.mm_improve.specs.Grammars.{place, with_variable, seen_in}
 use Rattle.mm_improve.proofs.Translating.{AreSeen, goals, keyed, seen-value, seen-push, fresh-constant, fresh-variable}
 
 among_onward : {A : Type 0} (f : List WSym → List A) (o : Option (List WSym)) (x : A) → Among x (onward f o) → (t : List WSym) × Among x (f t)

@@ -2,9 +2,9 @@
 use Rattle.mm_subst.specs.Symbols.{is_same}
 use Rattle.mm_improve.proofs.Symbols.{eq-same, ne-same, same_strings}
 use Rattle.mm_subst.specs.declared.symbol.WSym.{WSym}
-use Rattle.std.proofs.Common.{◌≡◌, ℕ, zero, suc, ◌+◌, ◌-◌, ◌≤◌, ◌<◌, List, [], ◌∷◌, ◌++◌, None, Some, Bool, false, cond, refl, sym, ◌∙◌, ap, arith, eqb, inl, inr, ◌⊎◌, subst, length, get_or, map}
+use Rattle.std.proofs.Common.{◌≡◌, ℕ, zero, suc, ◌+◌, ◌-◌, ◌≤◌, ◌<◌, List, [], ◌∷◌, ◌++◌, None, Some, Bool, false, cond, refl, sym, ◌∙◌, ap, arith, inl, inr, ◌⊎◌, subst, length, get_or, map}
 use Rattle.std.specs.List.{list_all, flat_map}
-use Rattle.std.proofs.lemmas.Bool.{and_right, false_from_ne_true, cases_lt, eq-eqb, ne_eqb}
+use Rattle.std.proofs.lemmas.Bool.{and_right, false_from_ne_true, cases_lt}
 use Rattle.mm_improve.specs.declared.grammar.Item.{Item}
 use Rattle.mm_improve.specs.declared.grammar.Item.TheVariants.{Fixed, New}
 use Rattle.mm_improve.specs.Options.{is_there, on, first}

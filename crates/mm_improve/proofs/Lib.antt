@@ -15,3 +15,6 @@ pub mod Covering
 pub mod Linking
 pub mod Serving
 pub mod Ranking
+pub mod Placing
+pub mod Active
+pub mod Sifting

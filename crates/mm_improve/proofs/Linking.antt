@@ -1,28 +1,26 @@
 -- The matches of a goal with a plain assertion, by the unifiers and by the items of the conclusion.
-use Rattle.std.proofs.Common.{◌≡◌, ℕ, zero, suc, ◌+◌, ◌≤◌, ◌<◌, List, [], ◌∷◌, ◌++◌, Option, None, Some, Bool, true, false, cond, not, ◌&&◌, refl, sym, ◌∙◌, ap, arith, eqb, inl, inr, ◌⊎◌, subst, length, get_or, map, filter}
+use Rattle.std.proofs.Common.{◌≡◌, ℕ, suc, ◌+◌, ◌≤◌, ◌<◌, List, [], ◌∷◌, ◌++◌, Option, None, Some, Bool, true, false, cond, not, ◌&&◌, refl, sym, ◌∙◌, ap, arith, inl, inr, subst, length, get_or, map, filter}
 use Rattle.std.specs.List.{list_all, AllByRecursion}
 use Rattle.std.proofs.lemmas.Bool.{cases_Bool, cases_eq, eq-eqb, ne_eqb, and_from, and_left, and_right}
-use Rattle.std.proofs.lemmas.List.{append-nil}
 use Rattle.mm_scope.specs.Contents.{stated_at, distinct_at}
 use Rattle.mm_subst.specs.declared.symbol.WSym.{WSym}
 use Rattle.mm_subst.specs.declared.symbol.WSym.TheVariants.{Const, Var, Work}
 use Rattle.mm_subst.specs.Applied.{most_symbols}
-use Rattle.mm_subst.specs.Symbols.{is_same, is_work, has_work}
+use Rattle.mm_subst.specs.Symbols.{is_same, has_work}
 use Rattle.mm_subst.specs.Substitutions.{Pairs, value_at, value_of, or_itself, applied, with_values}
-use Rattle.mm_subst.specs.Statements.{statement_of}
 use Rattle.mm_subst.proofs.Replaced.{applied-cons, applied-one}
 use Rattle.mm_unify.specs.Unifying.{restricted}
 use Rattle.mm_unify.specs.Variables.{numbers}
-use Rattle.mm_unify.specs.Forbidden.{Forbidden, forbidden, forbidden_by, heeded}
+use Rattle.mm_unify.specs.Forbidden.{Forbidden, forbidden, heeded}
 use Rattle.mm_unify.specs.Listings.{answer}
-use Rattle.mm_unify.specs.Matching.{behind, onward, by_value, matches, are_allowed}
+use Rattle.mm_unify.specs.Matching.{onward, matches, are_allowed}
 use Rattle.mm_unify.proofs.Mapping.{cases_same}
-use Rattle.mm_unify.proofs.Root.{Has, Numbered, numbered, numbered_right}
+use Rattle.mm_unify.proofs.Root.{Has, numbered, numbered_right}
 use Rattle.mm_unify.proofs.Sorted.{Among, among_mapped, among_filtered}
 use Rattle.mm_unify.proofs.Matched.{AreNamed, made}
 use Rattle.mm_unify.proofs.Listed.{lists_matches, restricted_value}
 use Rattle.mm_plain.specs.Drawing.{fresh_from}
-use Rattle.mm_plain.specs.Premises.{premises_of, variables_for}
+use Rattle.mm_plain.specs.Premises.{variables_for}
 use Rattle.mm_improve.specs.Options.{on}
 use Rattle.mm_improve.specs.Assertions as assertions
 use Rattle.mm_improve.specs.Assertions.{Terms, sigma_by, are_apart, are_parted}

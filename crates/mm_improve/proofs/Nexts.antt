@@ -1,6 +1,5 @@
 -- The next end in a row.
 use Rattle.mm_subst.specs.Symbols.{is_same}
-use Rattle.mm_improve.proofs.Symbols.{same-true, eq-same}
 use Rattle.mm_subst.specs.declared.symbol.WSym.{WSym}
 use Rattle.std.proofs.Common.{◌≡◌, ℕ, suc, ◌+◌, ◌≤◌, ◌<◌, List, [], ◌∷◌, ◌++◌, Option, None, Some, Bool, true, false, cond, ◌&&◌, refl, ◌∙◌, ap, arith, leb, ltb, eqb, inl, inr, length, get_or, drop}
 use Rattle.std.proofs.lemmas.Bool.{cases_lt, le-leb, lt-leb, lt-ltb, leb-true, ltb-true, eqb-true, eq-eqb, cases_Bool, and_parts, and_from, false_from_ne_true, both_ways}

@@ -1,21 +1,20 @@
 -- The chosen proof by unifiers is the chosen proof by items.
-use Rattle.std.proofs.Common.{◌≡◌, ℕ, zero, suc, ◌+◌, ◌-◌, ◌≤◌, ◌<◌, List, [], ◌∷◌, ◌++◌, Option, None, Some, Bool, true, false, cond, ◌||◌, ◌&&◌, refl, sym, ◌∙◌, ap, arith, inl, inr, ◌⊎◌, subst, length, get_or, map, take, drop, leb, if◌then◌else◌}
-use Rattle.std.specs.List.{list_all, list_any, flat_map, AllByRecursion, All}
+use Rattle.std.proofs.Common.{◌≡◌, ℕ, zero, suc, ◌≤◌, ◌<◌, List, [], ◌∷◌, ◌++◌, Option, None, Some, Bool, true, false, cond, ◌||◌, refl, sym, ◌∙◌, ap, arith, inl, inr, subst, length, get_or, map, take, drop, leb, if◌then◌else◌}
+use Rattle.std.specs.List.{list_all, flat_map, AllByRecursion, All}
 use Rattle.std.proofs.lemmas.List.Elements.{recursion_from_All}
 use Rattle.std.specs.Cmp.Lexicographic.{pointwise}
 use Rattle.std.proofs.lemmas.Bool.{cases_Bool, le-ltb, ne_eqb}
-use Rattle.std.proofs.lemmas.List.{map-append, length-append}
+use Rattle.std.proofs.lemmas.List.{map-append}
 use Rattle.mm_scope.specs.Contents.{active_at}
 use Rattle.mm_subst.specs.declared.symbol.WSym.{WSym}
 use Rattle.mm_subst.specs.declared.symbol.WSym.TheVariants.{Const, Var, Work}
 use Rattle.mm_subst.specs.Applied.{most_symbols}
 use Rattle.mm_subst.specs.Symbols.{is_same, is_work, has_work}
-use Rattle.mm_subst.specs.Substitutions.{Pairs, value_at, value_of, or_itself, applied}
+use Rattle.mm_subst.specs.Substitutions.{Pairs, value_of, applied}
 use Rattle.mm_subst.specs.Statements.{statement_of}
-use Rattle.mm_unify.specs.Matching.{lengths, behind, onward}
-use Rattle.mm_unify.proofs.Sorted.{Among, among_map, among_mapped, among_some_length, among_either}
+use Rattle.mm_unify.specs.Matching.{behind, onward}
+use Rattle.mm_unify.proofs.Sorted.{Among, among_mapped, among_some_length, among_either}
 use Rattle.mm_unify.proofs.Matched.{behind-some}
-use Rattle.mm_plain.specs.Lengths.{is_long}
 use Rattle.mm_plain.specs.Premises.{variables_for}
 use Rattle.mm_improve.specs.declared.grammar.Item.{Item}
 use Rattle.mm_improve.specs.declared.grammar.Item.TheVariants.{Fixed, Again, New}
@@ -25,11 +24,11 @@ use Rattle.mm_improve.specs.Assertions.{Terms, plain_assertions, parts}
 use Rattle.mm_improve.specs.Ranks as ranks
 use Rattle.mm_improve.specs.Items as items
 use Rattle.mm_improve.specs.Items.{Goal, no_goal, Use, value, by_use, by_hypothesis}
-use Rattle.mm_improve.specs.Grammars.{split, joined, place, place_or_none, codes_for, order_for, assertion_of, hypothesis_of, grammar_of, sigma_of, use_by, chosen_by, IsPlainAssertion, IsStatedAs, AnswersAgree}
+use Rattle.mm_improve.specs.Grammars.{split, place, place_or_none, codes_for, order_for, assertion_of, hypothesis_of, grammar_of, sigma_of, use_by, chosen_by, IsPlainAssertion, IsStatedAs, AnswersAgree}
 use Rattle.mm_improve.proofs.Ranks.{chosen-zero, chosen-suc}
-use Rattle.mm_improve.proofs.Translating.{goals, place-at}
+use Rattle.mm_improve.proofs.Translating.{goals}
 use Rattle.mm_improve.proofs.Linking.{same_uses, use_match, use_items, seen, order, order_is, key_here}
-use Rattle.mm_improve.proofs.Serving.{Differ, differ-in, same_test, applied-typed, parts_of}
+use Rattle.mm_improve.proofs.Serving.{differ-in, same_test, applied-typed, parts_of}
 
 -- a string inside another
 pub record Within (t w : List WSym) : Type 0 where

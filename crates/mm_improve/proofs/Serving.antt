@@ -1,17 +1,16 @@
 -- The goals of a match, in the order of the hypotheses and in that of first occurrence.
-use Rattle.std.proofs.Common.{◌≡◌, ℕ, zero, suc, ◌+◌, ◌≤◌, ◌<◌, List, [], ◌∷◌, ◌++◌, Option, None, Some, Bool, true, false, cond, ◌||◌, ◌&&◌, refl, sym, ◌∙◌, ap, arith, eqb, inl, inr, ◌⊎◌, subst, length, get_or, map, take, drop}
-use Rattle.std.specs.List.{list_all, list_any, flat_map, AllByRecursion}
-use Rattle.std.proofs.lemmas.Bool.{cases_Bool, cases_eq, cases_lt, eq-eqb, ne_eqb, and_parts, and_from}
-use Rattle.std.proofs.lemmas.List.{length-append, append-nil, length-map}
+use Rattle.std.proofs.Common.{◌≡◌, ℕ, zero, suc, ◌<◌, List, [], ◌∷◌, ◌++◌, Option, None, Some, Bool, true, false, cond, refl, sym, ◌∙◌, ap, arith, eqb, inl, inr, subst, length, get_or, map}
+use Rattle.std.specs.List.{list_all, AllByRecursion}
+use Rattle.std.proofs.lemmas.Bool.{cases_Bool, cases_lt, eq-eqb, and_parts, and_from}
+use Rattle.std.proofs.lemmas.List.{length-append, length-map}
 use Rattle.mm_subst.specs.declared.symbol.WSym.{WSym}
 use Rattle.mm_subst.specs.declared.symbol.WSym.TheVariants.{Const, Var, Work}
-use Rattle.mm_subst.specs.Symbols.{is_same, is_work, has_work}
-use Rattle.mm_subst.specs.Substitutions.{Pairs, value_at, value_of, or_itself, applied}
-use Rattle.mm_subst.proofs.Replaced.{applied-cons, applied-nil, applied-one}
+use Rattle.mm_subst.specs.Substitutions.{Pairs, value_of, applied}
+use Rattle.mm_subst.proofs.Replaced.{applied-cons, applied-one}
 use Rattle.mm_improve.specs.Options.{on}
 use Rattle.mm_improve.specs.Items.{Goal, no_goal, value}
-use Rattle.mm_improve.specs.Grammars.{joined, place, place_or_none, with_variable, seen_with, seen_in, typed}
-use Rattle.mm_improve.proofs.Translating.{AreSeen, goals, code_of, place-at, place-one}
+use Rattle.mm_improve.specs.Grammars.{joined, place, place_or_none, with_variable, seen_in, typed}
+use Rattle.mm_improve.proofs.Translating.{AreSeen, goals, code_of, place-at}
 
 -- the variables that have occurred differ
 abbrev pub Differ : List ℕ → Type 0

@@ -3,7 +3,7 @@ use Rattle.mm_subst.specs.Symbols.{is_same}
 use Rattle.mm_improve.proofs.Symbols.{same-true}
 use Rattle.mm_subst.specs.declared.symbol.WSym.{WSym}
 use Rattle.std.proofs.Common.{◌≡◌, ℕ, zero, suc, ◌-◌, ◌≤◌, ◌<◌, List, [], ◌∷◌, ◌++◌, Option, None, Some, Bool, true, false, cond, refl, sym, ◌∙◌, ap, arith, leb, eqb, inl, inr, subst, length, get_or, set, take, replicate}
-use Rattle.std.proofs.lemmas.Bool.{cases_lt, cases_eq, eqb-true, ne_eqb, and_parts, and_right}
+use Rattle.std.proofs.lemmas.Bool.{cases_lt, cases_eq, ne_eqb, and_parts, and_right}
 use Rattle.std.proofs.lemmas.List.{get_or-set_same, get_or-set_other, take_all}
 use Rattle.mm_improve.specs.Options.{is_there, or_else, on, first}
 use Rattle.mm_unify.specs.Parts.{part}

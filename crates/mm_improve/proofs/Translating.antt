@@ -1,22 +1,22 @@
 -- The matches of a pattern are those of its items.
-use Rattle.std.proofs.Common.{◌≡◌, ℕ, zero, suc, ◌+◌, ◌<◌, List, [], ◌∷◌, ◌++◌, Option, None, Some, Bool, true, false, cond, ◌||◌, ◌&&◌, refl, sym, ◌∙◌, ap, arith, eqb, inl, inr, subst, length, get_or, map, take, drop, filter}
-use Rattle.std.specs.List.{list_all, list_any, flat_map}
+use Rattle.std.proofs.Common.{◌≡◌, ℕ, zero, suc, ◌+◌, ◌<◌, List, [], ◌∷◌, ◌++◌, Option, None, Some, Bool, true, false, cond, ◌||◌, refl, sym, ◌∙◌, ap, arith, eqb, inl, inr, length, get_or, map, take, drop, filter}
+use Rattle.std.specs.List.{flat_map}
 use Rattle.std.proofs.lemmas.Bool.{cases_Bool, eqb-true, eq-eqb, ne_eqb, cases_eq}
-use Rattle.std.proofs.lemmas.List.{map-append, append-nil}
+use Rattle.std.proofs.lemmas.List.{map-append}
 use Rattle.std.proofs.lemmas.List.Elements.{filter-append}
 use Rattle.mm_subst.specs.declared.symbol.WSym.{WSym}
 use Rattle.mm_subst.specs.declared.symbol.WSym.TheVariants.{Const, Var, Work}
 use Rattle.mm_subst.specs.Symbols.{is_same, is_work, has_work}
 use Rattle.mm_subst.specs.Substitutions.{Pairs, value_at, value_of, or_itself, applied}
 use Rattle.mm_subst.proofs.Replaced.{applied-nil, applied-cons}
-use Rattle.mm_unify.specs.Matching.{lengths, behind, onward, known_value, by_value, matches}
+use Rattle.mm_unify.specs.Matching.{lengths, behind, onward, by_value, matches}
 use Rattle.mm_plain.specs.Drawing.{fresh_from}
 use Rattle.mm_improve.specs.declared.grammar.Item.{Item}
 use Rattle.mm_improve.specs.declared.grammar.Item.TheVariants.{Fixed, Again, New}
 use Rattle.mm_improve.specs.Options.{on}
 use Rattle.mm_improve.specs.Items as items
 use Rattle.mm_improve.specs.Items.{Goal, no_goal, value, whole}
-use Rattle.mm_improve.specs.Grammars.{place, place_or_none, variable_item, item_of, with_variable, seen_with, items_of, seen_in}
+use Rattle.mm_improve.specs.Grammars.{place, variable_item, with_variable, items_of}
 
 -- a place holds the variable
 pub place-at : (vs : List ℕ) (n k : ℕ) → place vs n ≡ Some k → (k < length vs) × (get_or vs k 0 ≡ n)

@@ -4,9 +4,9 @@ use Rattle.mm_improve.proofs.Symbols.{same-true, eq-same}
 use Rattle.mm_subst.specs.declared.symbol.WSym.{WSym}
 use Rattle.std.proofs.Common.{◌≡◌, ℕ, zero, suc, ◌+◌, ◌≤◌, ◌<◌, List, [], ◌∷◌, Option, None, Some, Bool, true, false, cond, not, ◌||◌, refl, sym, ◌∙◌, ap, arith, eqb, inl, inr, length, get_or}
 use Rattle.std.specs.List.{list_any}
-use Rattle.std.proofs.lemmas.Bool.{cases_Bool, eqb-true, eq-eqb, or_cases, or_left, or_right, and_from}
+use Rattle.std.proofs.lemmas.Bool.{cases_Bool, eq-eqb, or_cases, or_left, or_right, and_from}
 use Rattle.mm_improve.specs.Options.{is_there, or_else}
-use Rattle.mm_improve.specs.Items.{Goal, Hypothesis, Assertion, Grammar}
+use Rattle.mm_improve.specs.Items.{Hypothesis, Assertion, Grammar}
 use Rattle.mm_improve.specs.Charts.{Noted, Rows, entry_at, is_for, HasCode, IsNew}
 use Rattle.mm_improve.proofs.Settling.{with, entry_cell}
 

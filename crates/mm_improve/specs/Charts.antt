@@ -1,6 +1,6 @@
 -- The table.
 use Rattle.std.specs.Prelude.{ℕ, zero, suc, ◌≡◌, ◌≤◌, ◌<◌, ◌+◌, ◌⊎◌, List, [], ◌∷◌, map, length, Option, None, Some, Bool, true, false, cond, nat_le, nat_lt, ◌&&◌, ◌||◌, ◌==◌, slice_index_or}
-use Rattle.std.specs.List.{list_all, list_any, flat_map, filter, enumerate_from}
+use Rattle.std.specs.List.{list_all, list_any, flat_map, filter}
 use Rattle.mm_improve.specs.declared.table.Part.{Part}
 use Rattle.mm_improve.specs.Options.{is_there, on, first}
 use Rattle.mm_improve.specs.declared.grammar.Item.{Item}

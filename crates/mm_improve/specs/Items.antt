@@ -1,5 +1,5 @@
 -- Conclusions as what is searched for: matches with the parts of a string, and the chosen proof by them.
-use Rattle.std.specs.Prelude.{ℕ, zero, suc, ◌≡◌, Bool, true, false, ◌&&◌, not, List, [], ◌∷◌, ◌++◌, take, drop, length, map, Option, Some, None, slice_index_or, cond, nat_le}
+use Rattle.std.specs.Prelude.{ℕ, zero, suc, ◌≡◌, Bool, ◌&&◌, not, List, [], ◌∷◌, ◌++◌, take, drop, length, map, Option, Some, None, slice_index_or, cond, nat_le}
 use Rattle.std.specs.List.{flat_map, list_all}
 use Rattle.std.specs.Cmp.Lexicographic.{pointwise}
 use Rattle.mm_subst.specs.declared.symbol.WSym.{WSym}

@@ -4,3 +4,4 @@ pub mod Ranks
 pub mod Items
 pub mod Charts
 pub mod Grammars
+pub mod Searches

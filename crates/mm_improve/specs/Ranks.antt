@@ -1,11 +1,10 @@
 -- Ranks, and the chosen proof of a goal.
-use Rattle.std.specs.Prelude.{ℕ, zero, suc, ◌≡◌, ◌≤◌, List, [], ◌∷◌, map, length, Option, None, Some, Bool, cond, nat_le, nat_lt, if◌then◌else◌}
+use Rattle.std.specs.Prelude.{ℕ, zero, suc, ◌≡◌, ◌≤◌, List, [], map, Option, None, Some, Bool, cond, nat_le, if◌then◌else◌}
 use Rattle.std.specs.List.{list_all, flat_map}
 use Rattle.std.specs.Cmp.Lexicographic.{pointwise}
 use Rattle.mm_scope.specs.Contents.{active_at}
 use Rattle.mm_subst.specs.declared.symbol.WSym.{WSym}
 use Rattle.mm_subst.specs.Symbols.{is_same}
-use Rattle.mm_subst.specs.Applied.{most_symbols}
 use Rattle.mm_subst.specs.Substitutions.{Pairs}
 use Rattle.mm_subst.specs.Statements.{statement_of}
 use Rattle.mm_plain.specs.declared.plain.Plain.{Plain}

@@ -1,3 +1,4 @@
 pub mod SaveLemmas
 pub mod CompleteLemmas
 pub mod ProofFits
+mod ProveLemmas

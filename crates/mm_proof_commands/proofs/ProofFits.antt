@@ -5,12 +5,11 @@ use Rattle.mm_scope.specs.Contents.{is_read, distinct_at, labels_of, stated_at, 
 use Rattle.mm_scope.specs.Judged.{most_bytes}
 use Rattle.mm_stated.specs.declared.statement.Kind.TheVariants.{Theorem}
 use Rattle.mm_plain.specs.declared.plain.Plain.{Plain}
-use Rattle.mm_plain.specs.Valid.{first_setting}
+use Rattle.mm_plain.specs.Shape.{Proof}
+use Rattle.mm_plain.specs.Valid.{IsValid}
 use Rattle.mm_plain.specs.Numbers.{HasOwnLabels, pending_in}
-use Rattle.mm_plain.proofs.Kept.{valid-start}
 use Rattle.mm_plain.specs.Labels.{label_at}
 use Rattle.mm_plain.proofs.Labels.{has_label}
-use Rattle.mm_plain.proofs.Forms.{string_of_statement}
 use Rattle.mm_subst.specs.Statements.{statement_of}
 use Rattle.mm_sound.specs.Complete.{has_unknown}
 use Rattle.mm_splice.specs.Agreeing.{CanBeMade}
@@ -26,12 +25,15 @@ use Rattle.mm_save.specs.declared.form.Form.{Form}
 use Rattle.mm_save.proofs.Agreeing.{Agree, label_same}
 use Rattle.mm_save.proofs.Clashing.{apart_by}
 use Rattle.mm_save.proofs.Saves.{accepted_by, saved_keeps, saved_agrees}
+use Rattle.mm_edit.specs.Loading.{loading}
+use Rattle.mm_edit.specs.declared.loading.LoadFault.{LoadFault}
+use Rattle.mm_edit.proofs.LoadValid.{loading_valid}
 use Rattle.mm_command.specs.Meanings as meaning
 use Rattle.mm_command.specs.Meanings.{Meaning}
 use Rattle.mm_shell.specs.Actions.{Origin, Nowhere}
-use Rattle.mm_shell.specs.Answers.{Answer, unless, given, none_of}
+use Rattle.mm_shell.specs.Answers.{Answer, unless, given, none_of, or_refusal}
 use Rattle.mm_shell.specs.Fitting.{OpensIn, IsSaving, SavesIn, Fits}
-use Rattle.mm_shell.specs.OpenProofs.{ProofState, start_of}
+use Rattle.mm_shell.specs.OpenProofs.{ProofState, opened_of}
 use Rattle.mm_shell.specs.Saves.{Holds}
 use Rattle.mm_shell.specs.Sound.{IsOpenIn, AreSound, IsSound}
 use Rattle.mm_shell.specs.declared.answer.Saving.{Saving}
@@ -40,24 +42,31 @@ use Rattle.mm_shell.specs.declared.refusal.Refusal.{Refusal}
 use Rattle.mm_shell.specs.declared.refusal.Refusal.TheVariants.{NotUnified, NotBuilt, TooLong}
 use Rattle.mm_shell.proofs.FindLemmas.{IsNamed, found_is, theorem_found, proof_found, own_labels}
 use Rattle.mm_shell.proofs.FitLemmas.{rows_fit, given_fits, done_fits, refused_fits}
-use Rattle.mm_proof_commands.specs.Commands.{prove, show_proof, undo, redo, save, exit, exit_by, form_of, not_distinct, unknown_or_ready, database_with, proof_answer}
+use Rattle.mm_proof_commands.specs.Commands.{load_refusal, prove, show_proof, undo, redo, save, exit, exit_by, form_of, not_distinct, unknown_or_ready, database_with, proof_answer}
 use Rattle.mm_proof_commands.proofs.CompleteLemmas.{complete_by}
 
 -- ## PROVE
 
-start_open : (bytes label : List ℕ) (id depth : ℕ) → IsNamed bytes label id → IsOpenIn bytes (start_of bytes id depth)
-start_open bytes label id depth named = record {
+opened_open : (bytes label : List ℕ) (id depth : ℕ) (p : Proof) → IsNamed bytes label id → IsValid bytes id (statement_of bytes id) p → IsOpenIn bytes (opened_of id p depth)
+opened_open bytes label id depth p named valid = record {
   own = named.own;
   theorem = named.theorem;
-  valid = valid-start bytes id (statement_of bytes id) (string_of_statement (first_setting bytes id) id);
+  valid = valid;
   past = λ k d small. absurd (omega (arith, small));
   future = λ k d small. absurd (omega (arith, small));
 }
 
+ok_by : (label : List ℕ) (r : Result Proof LoadFault) (p : Proof) → or_refusal r (load_refusal label) ≡ Ok p → r ≡ Ok p
+ok_by label (Ok q) p e = let same : q ≡ p = ok_proof q p e in ap (λ (x : Proof). let r : Result Proof LoadFault = Ok x in r) same where
+  ok_proof : (q p : Proof) → (let r : Result Proof Refusal = Ok q in r) ≡ Ok p → q ≡ p
+  ok_proof q p e = cc
+ok_by label (Err f) p e = cc
+
 prove_fits : (s : State) (label : List ℕ) (guarded_too : Bool) → Fits Nowhere s (prove s label guarded_too)
 prove_fits s label guarded_too =
-    rows_fit Nowhere s _ _ (given_fits Nowhere s _ _ (λ bytes is. given_fits Nowhere s _ _ (λ id found. rows_fit Nowhere s _ _ (done_fits Nowhere s _
-    (subst (λ (d : Option (List ℕ)). OpensIn d (start_of bytes id s.undo_depth)) (sym (found_is s.database _ bytes is)) (start_open bytes label id s.undo_depth (theorem_found bytes label id found))) tt tt))))
+    rows_fit Nowhere s _ _ (given_fits Nowhere s _ _ (λ bytes is. given_fits Nowhere s _ _ (λ id found. rows_fit Nowhere s _ _ (given_fits Nowhere s _ _ (λ p loads. done_fits Nowhere s _
+    (subst (λ (d : Option (List ℕ)). OpensIn d (opened_of id p s.undo_depth)) (sym (found_is s.database _ bytes is))
+    (opened_open bytes label id s.undo_depth p (theorem_found bytes label id found) (loading_valid bytes id s.settings p (ok_by label (loading bytes id s.settings) p loads)))) tt tt)))))
 
 -- ## SHOW NEW_PROOF
 

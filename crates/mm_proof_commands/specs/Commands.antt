@@ -1,7 +1,7 @@
 -- What each command on the open proof or on the session means: its refusals in order, and then what it does.
 use Rattle.std.specs.Prelude.{◌&&◌, ◌==◌, not, nat_lt, length, is_some, ℕ, Bool, true, false, List, [], ◌∷◌, Option, Some, None, Result, Ok, Err, if◌then◌else◌, slice_get}
-use Rattle.mm_plain.specs.Numbers.{pending_in}
-use Rattle.mm_plain.specs.Shape.{size_of}
+use Rattle.mm_plain.specs.Numbers.{labels_in, pending_in, unknowns_among}
+use Rattle.mm_plain.specs.Shape.{Proof, size_of}
 use Rattle.mm_plain.specs.Labels.{label_at}
 use Rattle.mm_sound.specs.Complete.{has_unknown}
 use Rattle.mm_save.specs.Clashes.{clashes_in}
@@ -9,33 +9,47 @@ use Rattle.mm_save.specs.Saving.{saved}
 use Rattle.mm_save.specs.declared.clash.Clash.{Clash}
 use Rattle.mm_save.specs.declared.form.Form.{Form}
 use Rattle.mm_save.specs.declared.form.Form.TheVariants.{Normal, Compressed}
+use Rattle.mm_edit.specs.Loading.{loading}
+use Rattle.mm_edit.specs.declared.loading.LoadFault.{LoadFault}
+use Rattle.mm_edit.specs.declared.loading.LoadFault.TheVariants as fault
 use Rattle.mm_scope.specs.Contents.{distinct_at}
 use Rattle.mm_scope.specs.Judged.{most_bytes}
 use Rattle.mm_command.specs.Meanings as meaning
 use Rattle.mm_command.specs.Meanings.{Meaning}
-use Rattle.mm_shell.specs.Answers.{Answer, unless, given, found_or, none_of, does, reports, changes}
+use Rattle.mm_shell.specs.Answers.{Answer, unless, given, found_or, none_of, or_refusal, does, reports, changes}
 use Rattle.mm_shell.specs.Finding.{database_of, theorem_named, proof_of, is_closed}
-use Rattle.mm_shell.specs.OpenProofs.{ProofState, start_of}
+use Rattle.mm_shell.specs.OpenProofs.{ProofState, opened_of}
 use Rattle.mm_shell.specs.Verdicts.{symbol_text}
 use Rattle.mm_shell.specs.declared.state.State.{State}
 use Rattle.mm_shell.specs.declared.answer.Change.TheVariants.{Opens, Saves, Undoes, Redoes, Leaves, Ends}
 use Rattle.mm_shell.specs.declared.refusal.Refusal.{Refusal}
-use Rattle.mm_shell.specs.declared.refusal.Refusal.TheVariants.{Guarded, ProofOpen, NoProofOpen, TooLong, NotUnified, NotDistinct, NothingToUndo, NothingToRedo, ProofNotSaved, NotWritten, NotBuilt}
+use Rattle.mm_shell.specs.declared.refusal.Refusal.TheVariants.{Guarded, ProofOpen, NoProofOpen, NoTree, TooManySteps, TooDeep, WorkSpent, OutOfMemory, TooLong, NotUnified, NotDistinct, NothingToUndo, NothingToRedo, ProofNotSaved, NotWritten, NotBuilt}
 use Rattle.mm_shell.specs.declared.report.Report.TheVariants.{Nothing, Counts, Saved, Steps, Undone, Redone}
-use Rattle.mm_proof_commands.specs.Unproved.{is_unproved}
 
 -- ## PROVE
+
+abbrev pub load_refusal : List ℕ → LoadFault → Refusal
+load_refusal label fault.NoTree = NoTree label
+load_refusal label fault.TooManySteps = TooManySteps
+load_refusal label fault.TooDeep = TooDeep
+load_refusal label fault.WorkSpent = WorkSpent
+load_refusal label fault.TooLong = TooLong
+load_refusal label fault.Memory = OutOfMemory
+
+-- a proof is opened, and its steps are counted
+abbrev pub opens : List ℕ → ℕ → ℕ → Proof → Answer
+opens bytes id depth p = does (Counts (size_of p.plain) (unknowns_among (labels_in p.plain)) (length (pending_in bytes p.plain))) (Opens (opened_of id p depth))
+
+abbrev pub prove_theorem : State → List ℕ → ℕ → List ℕ → Answer
+prove_theorem s bytes id label = given (or_refusal (loading bytes id s.settings) (load_refusal label)) (opens bytes id s.undo_depth)
 
 abbrev pub prove : State → List ℕ → Bool → Answer
 prove s label guarded_too =
     unless ((is_some s.open_proof, ProofOpen) ∷ [])
     (given (database_of s) (λ bytes.
     given (theorem_named bytes label) (λ id.
-    unless (
-    (is_closed guarded_too bytes id, Guarded label)
-    ∷ (not (is_unproved bytes id), NotBuilt)
-    ∷ [])
-    (does (Counts 1 1 0) (Opens (start_of bytes id s.undo_depth))))))
+    unless ((is_closed guarded_too bytes id, Guarded label) ∷ [])
+    (prove_theorem s bytes id label))))
 
 -- ## SHOW NEW_PROOF
 

@@ -1,2 +1,1 @@
-pub mod Unproved
 pub mod Commands

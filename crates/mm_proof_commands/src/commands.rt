@@ -10,16 +10,20 @@ use crate::redo::redo;
 use crate::save::save;
 use crate::show_proof::show_proof;
 use crate::undo::undo;
+use mm_base::Steps;
 use mm_command::Command;
 use mm_shell::{Change, Done, Refusal, Report, State};
 use std::alloc::Global;
+use std::sync::ledger::Ledger;
 
-/// The answer to a command on the open proof or on the session: one arm for each. It changes nothing.
+/// The answer to a command on the open proof or on the session: one arm for each. It changes nothing. The
+/// nodes that PROVE makes are counted in `steps`.
 #[tactic(auto, unfolding(crate::specs::Commands::proof_answer))]
-pub fn answer<'a>(
+pub fn answer<'a, L: Ledger>(
     alloc: Global,
     state: &'a State,
     command: Command<'a>,
+    steps: &mut Steps<L>,
 ) -> Result<Done<'a>, Refusal<'a>>
     requires { IsSound state.now }
     ensures { Answers (proof_answer (meaning_of command.entry) state.now) result }
@@ -30,7 +34,7 @@ pub fn answer<'a>(
             change: Change::Stays,
         }),
         Command::ShowNewProof { unknown } => show_proof(state, unknown),
-        Command::Prove { label, guarded_too } => prove(alloc, state, label, guarded_too),
+        Command::Prove { label, guarded_too } => prove(alloc, state, label, guarded_too, steps),
         Command::Save {
             normal: _,
             compressed,

@@ -3,7 +3,6 @@
 
 mod commands;
 mod exit;
-mod lone;
 mod prove;
 mod redo;
 mod save;

@@ -9,3 +9,4 @@ mod Walking
 pub mod Clashing
 mod Spelling
 pub mod Saves
+mod ReadingBack

@@ -16,9 +16,11 @@ ghost use Rattle.mm_stack.specs.declared.outcome.Verdict.TheVariants.{Incomplete
 ghost use Rattle.mm_plain.specs.Labels.{label_at};
 ghost use Rattle.mm_sound.specs.Apart.{IsApart};
 ghost use Rattle.mm_sound.specs.Complete.{IsComplete, IsSettled, has_unknown};
+ghost use Rattle.mm_sound.specs.LabelTrees.{label_tree};
 ghost use Rattle.mm_sound.specs.Proves.{Proves};
 ghost use Rattle.mm_save.specs.Clashes.{clashes_in};
 ghost use Rattle.mm_save.specs.Outside.{HaveRoom, KeepsOutside, saved_in_turn};
+ghost use Rattle.mm_save.specs.ReadBack.{SpellsTree};
 ghost use Rattle.mm_save.specs.Saving.{saved};
 ghost use Rattle.mm_save.specs.declared.form.Form.{Form};
 ghost use Rattle.mm_save.specs.declared.form.Form.TheVariants.{Normal};
@@ -42,6 +44,16 @@ pub fn saved_proofs_are_accepted(bytes: &[u8], at: StmtId)
     ensures proved { (form : Form) (p : Proof) → Proves bytes.now at.0 p → length (saved bytes.now at.0 form p.plain) ≤ most_bytes → Accepts (saved bytes.now at.0 form p.plain) (label_at bytes.now at.0) }
     ensures without_clash { (form : Form) (p : Proof) → IsValid bytes.now at.0 (statement_of bytes.now at.0) p → IsComplete bytes.now p.plain → slice_get (clashes_in bytes.now (distinct_at bytes.now at.0) p.plain) 0 ≡ None → length (saved bytes.now at.0 form p.plain) ≤ most_bytes
         → Accepts (saved bytes.now at.0 form p.plain) (label_at bytes.now at.0) }
+{
+    let _ = bytes;
+}
+
+/// A valid proof that is saved in either form, complete or not, is read back: its text spells steps that fold to its label tree.
+pub fn saved_proofs_are_read_back(bytes: &[u8], at: StmtId)
+    requires read { is_read bytes.now ≡ true }
+    requires own { at.0 < length (labels_of bytes.now) }
+    requires theorem { (stated_at bytes.now at.0).kind ≡ Theorem }
+    ensures { (form : Form) (p : Proof) → IsValid bytes.now at.0 (statement_of bytes.now at.0) p → length (saved bytes.now at.0 form p.plain) ≤ most_bytes → SpellsTree bytes.now (saved bytes.now at.0 form p.plain) at.0 (label_tree p.plain) }
 {
     let _ = bytes;
 }

@@ -20,6 +20,7 @@ pub use fault::SaveFault;
 pub use form::Form;
 pub use laws::{
     incomplete_saves_are_incomplete, other_theorems_stay, proofs_without_clash_are_apart,
-    saved_proofs_are_accepted, saves_keep_the_outside, valid_proofs_stay_valid,
+    saved_proofs_are_accepted, saved_proofs_are_read_back, saves_keep_the_outside,
+    valid_proofs_stay_valid,
 };
 pub use save::save_tree;

@@ -1,8 +1,7 @@
 -- The open proof and its history.
 use Rattle.std.specs.Prelude.{ℕ, ◌-◌, Bool, true, false, List, [], ◌∷◌, ◌++◌, Option, Some, None, length, take, drop, slice_get}
 use Rattle.circular_buffer.specs.Buffer.{keep_last, last_item}
-use Rattle.mm_plain.specs.Shape.{Proof, unknown}
-use Rattle.mm_subst.specs.Statements.{statement_of}
+use Rattle.mm_plain.specs.Shape.{Proof}
 use Rattle.mm_tree.specs.Trees as trees
 use Rattle.mm_tree.specs.Versions.{Versions, HasNoDrafts}
 use Rattle.mm_undo.specs.Histories.{IsHistoryOf, Lists, Marks, lists_of}
@@ -20,9 +19,9 @@ pub record ProofState : Type 0 where
 
 -- ## What it becomes
 
--- a theorem's proof as it begins: one unknown step for its statement, and nothing to undo or to redo
-abbrev pub start_of : List ℕ → ℕ → ℕ → ProofState
-start_of bytes id depth = record { theorem = id; proof = record { plain = unknown (statement_of bytes id); next = 1 }; past = []; future = []; depth = depth; changed = false }
+-- a theorem's proof as it is opened: nothing to undo or to redo
+abbrev pub opened_of : ℕ → Proof → ℕ → ProofState
+opened_of id p depth = record { theorem = id; proof = p; past = []; future = []; depth = depth; changed = false }
 
 abbrev pub after_save : ProofState → ProofState
 after_save p = record p { changed = false }

@@ -1,8 +1,8 @@
-ghost use Rattle.std.specs.Prelude.{◌≡◌, ◌<◌, IfOk, length, slice_get};
+ghost use Rattle.std.specs.Prelude.{◌≡◌, IfOk, length, slice_get};
 ghost use Rattle.mm_plain.specs.Numbers.{HasOwnLabels, labels_in, pending_in};
 ghost use Rattle.mm_plain.specs.Shape.{size_of};
-ghost use Rattle.mm_scope.specs.Contents.{labels_of};
-ghost use Rattle.mm_shell.specs.OpenProofs.{after_redo, after_save, after_undo, start_of, with_depth};
+ghost use Rattle.mm_tree.specs.Versions.{HasNoDrafts};
+ghost use Rattle.mm_shell.specs.OpenProofs.{after_redo, after_save, after_undo, opened_of, with_depth};
 
 use mm_scope::{Database, StmtId};
 use mm_tree::{Memory, Tree};
@@ -38,17 +38,11 @@ impl Model for OpenProof {
 }
 
 impl OpenProof {
-    /// The proof of a theorem as it begins: one unknown step, and a history that keeps so many versions.
-    pub fn start(
-        alloc: Global,
-        database: &Database,
-        theorem: StmtId,
-        depth: u32,
-    ) -> Result<OpenProof, Memory>
-        requires { theorem.0 < length (labels_of database.now) }
-        ensures { IfOk result (λ p. p ≡ start_of database.now theorem.0 depth) }
+    /// The proof of a theorem as it is opened: a tree without drafts, and a history that keeps so many versions.
+    pub fn new(alloc: Global, theorem: StmtId, tree: Tree, depth: u32) -> Result<OpenProof, Memory>
+        requires { HasNoDrafts tree.versions }
+        ensures { IfOk result (λ p. p ≡ opened_of theorem.0 tree.proof depth) }
     {
-        let tree = Tree::start(alloc, database, theorem)?;
         let history = History::new(alloc, depth)?;
         Ok(OpenProof {
             theorem,

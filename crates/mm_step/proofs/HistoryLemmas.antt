@@ -351,7 +351,7 @@ histories_move m s map Faulted p q was fine is = absurd (true≢false fine)
 prove_begins : (s : State) (label : List ℕ) (guarded_too : Bool) → Such (IsBegun s.undo_depth) (prove s label guarded_too)
 prove_begins s label guarded_too =
     let P : ProofState → Type 0 = IsBegun s.undo_depth in
-    rows_such P _ _ (given_such P _ _ (λ bytes is. given_such P _ _ (λ id found. rows_such P _ _ (record { past = refl; future = refl; depth_is = refl }))))
+    rows_such P _ _ (given_such P _ _ (λ bytes is. given_such P _ _ (λ id found. rows_such P _ _ (given_such P _ _ (λ p loads. record { past = refl; future = refl; depth_is = refl })))))
 
 step_such : (P : ProofState → Type 0) (s : State) (a : ProofState → Answer) → s.open_proof ≡ None → Such P (given (found_or s.open_proof NoProofOpen) a)
 unfolding given

@@ -99,7 +99,7 @@ proof_keeps : (m : Meaning) (s : State) → Keeps s (proof_answer m s)
 unfolding proof_answer
 proof_keeps meaning.Nothing s = refl
 proof_keeps (meaning.ShowNewProof only_unknown) s = given_keep s _ _ (λ here. refl)
-proof_keeps (meaning.Prove label guarded_too) s = rows_keep s _ _ (given_keep s _ _ (λ bytes. given_keep s _ _ (λ id. rows_keep s _ _ refl)))
+proof_keeps (meaning.Prove label guarded_too) s = rows_keep s _ _ (given_keep s _ _ (λ bytes. given_keep s _ _ (λ id. rows_keep s _ _ (given_keep s _ _ (λ p. refl)))))
 proof_keeps meaning.Undo s = given_keep s _ _ (λ p. rows_keep s _ _ refl)
 proof_keeps meaning.Redo s = given_keep s _ _ (λ p. rows_keep s _ _ refl)
 proof_keeps (meaning.Save normal compressed guarded_too) s =

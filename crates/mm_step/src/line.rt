@@ -70,7 +70,7 @@ fn run<F: Files, L: Ledger>(
         Group::Database => run_database(alloc, state, files, command),
         Group::Settings => run_setting(alloc, state, command),
         Group::Edits => run_edit(alloc, state, command, steps),
-        Group::Session => run_proof(alloc, state, command),
+        Group::Session => run_proof(alloc, state, command, steps),
     }
 }
 
@@ -162,11 +162,16 @@ fn run_edit<L: Ledger>(
 }
 
 // Runs a command on the open proof as a whole, or on the session.
-fn run_proof(alloc: Global, state: &mut State, command: Command<'_>) -> Reply
+fn run_proof<L: Ledger>(
+    alloc: Global,
+    state: &mut State,
+    command: Command<'_>,
+    steps: &mut Steps<L>,
+) -> Reply
     requires { IsSound state.old }
     ensures { Replies (proof_answer (meaning_of command.entry) state.old) state.old result state.new }
 {
-    match tell_answer(alloc, state, command) {
+    match tell_answer(alloc, state, command, steps) {
         Err(reply) => reply,
         Ok((text, change)) => {
             apply_change(state, change);
@@ -179,11 +184,16 @@ fn run_proof(alloc: Global, state: &mut State, command: Command<'_>) -> Reply
 }
 
 // The text of the answer to such a command, and its change; or the reply where it is refused.
-fn tell_answer(alloc: Global, state: &State, command: Command<'_>) -> Result<(Text, Change), Reply>
+fn tell_answer<L: Ledger>(
+    alloc: Global,
+    state: &State,
+    command: Command<'_>,
+    steps: &mut Steps<L>,
+) -> Result<(Text, Change), Reply>
     requires { IsSound state.now }
     ensures { Tells (proof_answer (meaning_of command.entry) state.now) result }
 {
-    match proof_answer(alloc, state, command) {
+    match proof_answer(alloc, state, command, steps) {
         Err(refusal) => Err(refuse(alloc, refusal)),
         Ok(done) => tell(alloc, done),
     }

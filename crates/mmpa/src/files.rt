@@ -3,14 +3,12 @@
 ghost use Rattle.std.specs.Prelude.{◌≡◌, false, [], Some, None};
 ghost use Rattle.mm_base.specs.Files.{Finds};
 
+use crate::replacing::replace_file;
 use mm_base::{Fetched, Files, FilesFault};
 use std::alloc::Global;
-use std::fs::{self, OpenFile, OpenOptions};
-use std::io::{self, ErrorKind, Read, Write};
+use std::fs::{self, OpenFile};
+use std::io::{self, ErrorKind, Read};
 use std::rt;
-
-/// How many names are tried for a new file beside an old one.
-const NEW_NAMES: u32 = 100;
 
 /// The files of the system. They tell nothing of what they hold.
 #[derive(Drop)]
@@ -54,52 +52,6 @@ fn cut(mut bytes: Vec<u8>, most: u64) -> Fetched
         bytes.truncate(most as usize);
     }
     Fetched { bytes, more }
-}
-
-/// Puts the whole text into a new file beside the named one, and then in its place.
-fn replace_file<R: rt::Files>(
-    system: &R,
-    alloc: Global,
-    name: &str,
-    bytes: &[u8],
-) -> io::Result<()> {
-    for number in 0..NEW_NAMES {
-        let beside = format!(in alloc; "{name}.new{number}")?;
-        match OpenOptions::new()
-            .write(true)
-            .create_new(true)
-            .open(system, beside.as_str())
-        {
-            Ok(file) => return finish(system, file, beside.as_str(), name, bytes),
-            Err(error) if error.kind() == ErrorKind::AlreadyExists => {}
-            Err(error) => return Err(error),
-        }
-    }
-    Err(io::Error::from(ErrorKind::AlreadyExists))
-}
-
-/// Fills the new file and moves it over the named one. On a fault nothing is left beside it.
-fn finish<R: rt::Files>(
-    system: &R,
-    file: R::File,
-    beside: &str,
-    name: &str,
-    bytes: &[u8],
-) -> io::Result<()> {
-    let written = match fill(file, bytes) {
-        Ok(()) => fs::rename(system, beside, name),
-        Err(error) => Err(error),
-    };
-    if written.is_err() {
-        let _ = fs::remove_file(system, beside);
-    }
-    written
-}
-
-/// Writes the whole text and has it kept.
-fn fill<F: Write + OpenFile + Drop>(mut file: F, bytes: &[u8]) -> io::Result<()> {
-    file.write_all(bytes)?;
-    file.sync_all()
 }
 
 impl<'a, R: rt::Files> Files for RealFiles<'a, R> {

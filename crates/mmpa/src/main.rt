@@ -5,6 +5,7 @@ mod arguments;
 mod files;
 mod input;
 mod log;
+mod replacing;
 mod screen;
 #[cfg(test)]
 mod tests;
@@ -49,7 +50,7 @@ const COMMANDS: [&str; 27] = [
     "SET EMPTY_SUBSTITUTION OFF       work variables stand for no empty text",
     "OPEN LOG FILE                    keeps what is printed from here on in the file too",
     "CLOSE LOG                        ends the log",
-    "PROVE LABEL [/OVERRIDE]          takes a proof in hand that is ? alone",
+    "PROVE LABEL [/OVERRIDE]          takes the proof of a theorem in hand",
     "ASSIGN STEP LABEL [/OVERRIDE]    makes an unknown step known, by a statement",
     "LET VARIABLE $N = TEXT           puts a text for a work variable",
     "LET STEP STEP = TEXT             unifies what a step says with a text",

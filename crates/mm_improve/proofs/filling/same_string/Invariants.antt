@@ -1,4 +1,4 @@
-use Rattle.std.proofs.Common.{◌≡◌, drop, length}
+use Rattle.std.proofs.Common.{◌≡◌, drop}
 use Rattle.mm_improve.specs.Items.{same_string}
 use Rattle.mm_improve.proofs.filling.same_string.Given as goal
 

@@ -1,4 +1,4 @@
-use Rattle.std.proofs.Common.{◌≡◌, ◌&&◌, ℕ, List, Option, Bool, true, not, sym, ◌∙◌, ap}
+use Rattle.std.proofs.Common.{◌≡◌, ◌&&◌, List, Option, Bool, true, not, sym, ◌∙◌, ap}
 use Rattle.std.specs.List.{list_all}
 use Rattle.mm_subst.specs.declared.brackets.Brackets.{Brackets}
 use Rattle.mm_unify.specs.Forbidden.{forbidden_by}

@@ -1,4 +1,4 @@
-use Rattle.std.proofs.Common.{◌<◌, ◌≤◌, ℕ, [], length, get_or}
+use Rattle.std.proofs.Common.{◌<◌, ◌≤◌, ℕ, length, get_or}
 use Rattle.mm_improve.specs.Charts.{EndsOutside, no_hypothesis}
 use Rattle.mm_improve.proofs.reach.hypothesis_end.Given as goal
 
