@@ -16,3 +16,5 @@ pub mod Bared
 pub mod Parted
 pub mod Later
 pub mod Floating
+pub mod FreshVariables
+pub mod Renewed

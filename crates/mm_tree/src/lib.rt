@@ -7,12 +7,14 @@
 
 mod fault;
 mod floats;
+mod fresh;
 mod graft;
 mod lengths;
 mod line;
 mod node;
 mod occurring;
 mod premises;
+mod renewal;
 mod sources;
 #[cfg(test)]
 mod tests;
@@ -21,6 +23,7 @@ mod tree;
 mod writing;
 
 pub use fault::{BindFault, GraftFault, WorkSpent};
+pub use fresh::{fresh_from, variables_for};
 pub use premises::premises as hypotheses;
 pub use std::alloc::AllocError as Memory;
 pub use tree::{MOST_LEVELS, MOST_STEPS, MOST_WORKS, Mark, Tree};

@@ -1,6 +1,6 @@
 use Rattle.std.proofs.Common.{◌≡◌, ◌+◌, arith}
-use Rattle.mm_edit.proofs.FreshLemmas.{all-fresh, key-is-new, one-more}
-use Rattle.mm_edit.proofs.fresh.fresh_from.Goals as goal
+use Rattle.mm_tree.proofs.FreshVariables.{all-fresh, key-is-new, one-more}
+use Rattle.mm_tree.proofs.fresh.fresh_from.Goals as goal
 
 pub put-requires : goal.put-requires
 put-requires c = key-is-new c.args.first c.args.variables.now c.loop-variable.sigma c.loop-variable.variable-index 0 c.requires.differ c.loop-variable-test.true c.loop-variable.invariant.so_far

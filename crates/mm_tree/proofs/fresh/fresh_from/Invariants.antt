@@ -1,6 +1,6 @@
 use Rattle.std.proofs.Common.{◌≡◌, ◌+◌, take}
 use Rattle.mm_plain.specs.Drawing.{fresh_from}
-use Rattle.mm_edit.proofs.fresh.fresh_from.Given as goal
+use Rattle.mm_tree.proofs.fresh.fresh_from.Given as goal
 
 abbrev pub invariant-loop-variable : goal.invariant-loop-variable
 invariant-loop-variable l = record {

@@ -1,0 +1,11 @@
+use Rattle.std.proofs.Common.{◌≡◌, ◌+◌, ◌≤◌, drop, length}
+use Rattle.std.specs.Prelude.{filter_map}
+use Rattle.mm_scope.specs.Contents.{stated_at}
+use Rattle.mm_stated.specs.Stated.{variable_of}
+use Rattle.mm_tree.proofs.fresh.count_among.Given as goal
+
+abbrev pub invariant-loop-id : goal.invariant-loop-id
+invariant-loop-id l = record {
+  low : l.count ≤ l.id-index;
+  counted : l.count + length (filter_map (λ id. variable_of (stated_at l.db id)) (drop l.id-index l.ids)) ≡ length (filter_map (λ id. variable_of (stated_at l.db id)) l.ids);
+}
