@@ -2,7 +2,7 @@
 use Rattle.std.specs.Prelude.{ℕ, ◌==◌, not, List, [], ◌∷◌, Result, Ok}
 use Rattle.mm_base.specs.Refusals.{unless}
 use Rattle.mm_plain.specs.Drawing.{draws_of, with_fresh_in}
-use Rattle.mm_plain.specs.Shape.{Proof, step_at}
+use Rattle.mm_plain.specs.Shape.{Proof, size_of, step_at}
 use Rattle.mm_edit.specs.Steps.{has_step, is_unknown, is_spent}
 use Rattle.mm_edit.specs.declared.edit_fault.EditFault.{EditFault}
 use Rattle.mm_edit.specs.declared.edit_fault.EditFault.TheVariants.{NoSuchStep, StepUnknown, NothingChanged, WorkSpent}
@@ -18,3 +18,22 @@ initialized bytes p k =
     ∷ (is_spent p (draws_of bytes (step_at p.plain k)), WorkSpent)
     ∷ [])
     (Ok (with_fresh_in bytes p k))
+
+-- ## The whole proof
+
+-- the same of a part that is there, whether its step is known or not
+abbrev pub part_initialized : List ℕ → Proof → ℕ → Result Proof EditFault
+part_initialized bytes p k =
+    unless (
+    (draws_of bytes (step_at p.plain k) == 0, NothingChanged)
+    ∷ (is_spent p (draws_of bytes (step_at p.plain k)), WorkSpent)
+    ∷ [])
+    (Ok (with_fresh_in bytes p k))
+
+-- the proof in which all known steps have fresh work variables
+unfoldable pub all_initialized : List ℕ → Proof → Result Proof EditFault
+all_initialized bytes p = part_initialized bytes p (size_of p.plain)
+
+-- and of a part that needs some
+abbrev pub drawn_anew : List ℕ → Proof → ℕ → Result Proof EditFault
+drawn_anew bytes p k = unless ((is_spent p (draws_of bytes (step_at p.plain k)), WorkSpent) ∷ []) (Ok (with_fresh_in bytes p k))

@@ -7,7 +7,7 @@ ghost use Rattle.mm_plain.specs.Shape.{Proof, steps_of};
 ghost use Rattle.mm_plain.specs.Valid.{IsKnownSymbol, IsString, setting_of};
 ghost use Rattle.mm_edit.specs.Assigning.{assigned};
 ghost use Rattle.mm_edit.specs.Deleting.{deleted, floats_deleted};
-ghost use Rattle.mm_edit.specs.Initializing.{initialized};
+ghost use Rattle.mm_edit.specs.Initializing.{all_initialized, initialized};
 ghost use Rattle.mm_edit.specs.Keeping.{IsKept, IsProofOf};
 ghost use Rattle.mm_edit.specs.Letting.{step_let, variable_let};
 ghost use Rattle.mm_edit.specs.Replacing.{replaced};
@@ -23,6 +23,7 @@ pub fn accepted_edits_keep_proofs_valid(bytes: &[u8])
     ensures step_unified { (at k : ℕ) (set : Settings) (choice : Option ℕ) (goal : List WSym) (p q : Proof) → IsProofOf bytes.now at goal p → step_unified bytes.now set p k choice ≡ Ok q → IsKept bytes.now at goal p q }
     ensures all_unified { (at : ℕ) (set : Settings) (goal : List WSym) (p q : Proof) → IsProofOf bytes.now at goal p → all_unified bytes.now set p ≡ Ok q → IsKept bytes.now at goal p q }
     ensures initialized { (at k : ℕ) (goal : List WSym) (p q : Proof) → IsProofOf bytes.now at goal p → initialized bytes.now p k ≡ Ok q → IsKept bytes.now at goal p q }
+    ensures all_initialized { (at : ℕ) (goal : List WSym) (p q : Proof) → IsProofOf bytes.now at goal p → all_initialized bytes.now p ≡ Ok q → IsKept bytes.now at goal p q }
     ensures deleted { (at k : ℕ) (goal : List WSym) (p q : Proof) → IsProofOf bytes.now at goal p → deleted p k ≡ Ok q → IsKept bytes.now at goal p q }
     ensures floats_deleted { (at : ℕ) (goal : List WSym) (p q : Proof) → IsProofOf bytes.now at goal p → floats_deleted bytes.now p ≡ Ok q → IsKept bytes.now at goal p q }
 {

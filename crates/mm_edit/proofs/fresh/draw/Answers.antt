@@ -2,7 +2,8 @@ use Rattle.std.proofs.Common.{ℕ, List, ap, length, subst, sym, ◌∙◌, arit
 use Rattle.mm_scope.specs.Contents.{statements_of, stated_at}
 use Rattle.mm_scope.specs.Laws.{AllDiffer}
 use Rattle.mm_stated.specs.Mandatory.{variables_of}
-use Rattle.mm_edit.proofs.FreshLemmas.{fewer-variables, variables-differ}
+use Rattle.mm_edit.proofs.FreshLemmas.{fewer-variables}
+use Rattle.mm_tree.proofs.FreshVariables.{variables-differ}
 use Rattle.mm_edit.proofs.fresh.draw.Goals as goal
 
 pub overflow_cast-len : goal.overflow_cast-len

@@ -1,6 +1,6 @@
 use Rattle.mm_edit.proofs.Assigning.{kept-assigned}
 use Rattle.mm_edit.proofs.Deleting.{kept-floats_deleted}
-use Rattle.mm_edit.proofs.Initializing.{kept-initialized, kept-deleted}
+use Rattle.mm_edit.proofs.Initializing.{kept-all_initialized, kept-initialized, kept-deleted}
 use Rattle.mm_edit.proofs.Letting.{kept-variable_let, kept-step_let}
 use Rattle.mm_edit.proofs.Replacing.{kept-replaced}
 use Rattle.mm_edit.proofs.Unifying.{kept-step_unified, kept-all_unified}
@@ -26,6 +26,9 @@ returns-clause-all_unified c = λ at set goal p q v h. kept-all_unified c.args.b
 
 pub returns-clause-initialized : goal.returns-clause-initialized
 returns-clause-initialized c = λ at k goal p q v h. kept-initialized c.args.bytes.now at goal p q k v h
+
+pub returns-clause-all_initialized : goal.returns-clause-all_initialized
+returns-clause-all_initialized c = λ at goal p q v h. kept-all_initialized c.args.bytes.now at goal p q v h
 
 pub returns-clause-deleted : goal.returns-clause-deleted
 returns-clause-deleted c = λ at k goal p q v h. kept-deleted c.args.bytes.now at goal p q k v h
