@@ -18,3 +18,5 @@ pub mod Later
 pub mod Floating
 pub mod FreshVariables
 pub mod Renewed
+pub mod ReplacingLemmas
+pub mod Refilled

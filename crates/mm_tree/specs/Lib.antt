@@ -9,3 +9,4 @@ pub mod Placed
 pub mod Bound
 pub mod Written
 pub mod Floats
+pub mod Replacing

@@ -15,6 +15,7 @@ mod node;
 mod occurring;
 mod premises;
 mod renewal;
+mod replacing;
 mod sources;
 #[cfg(test)]
 mod tests;
@@ -22,8 +23,9 @@ mod timed;
 mod tree;
 mod writing;
 
-pub use fault::{BindFault, GraftFault, WorkSpent};
+pub use fault::{BindFault, GraftFault, ReplaceFault, WorkSpent};
 pub use fresh::{fresh_from, variables_for};
 pub use premises::premises as hypotheses;
+pub use replacing::MOST_PREMISES;
 pub use std::alloc::AllocError as Memory;
 pub use tree::{MOST_LEVELS, MOST_STEPS, MOST_WORKS, Mark, Tree};
