@@ -18,6 +18,7 @@ pub mod Falling
 pub mod Initializing
 pub mod Deleting
 pub mod Replacing
+pub mod ReplaceLemmas
 pub mod Short
 pub mod Listings
 pub mod TryingLemmas

@@ -13,6 +13,7 @@ mod initialization;
 mod laws;
 mod let_value;
 mod listing;
+mod replacement;
 mod unification;
 mod unify_rounds;
 
@@ -24,5 +25,6 @@ pub use fault::AssignFault;
 pub use initialization::{initialize, initialize_all};
 pub use laws::{accepted_edits_keep_proofs_valid, unify_all_leaves_no_only_unifier};
 pub use let_value::{let_step, let_variable};
+pub use replacement::replace;
 pub use unification::{UnifyFault, unify_step};
 pub use unify_rounds::unify_all;
