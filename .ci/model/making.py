@@ -162,6 +162,8 @@ class Prover:
     def __init__(self, random, db, theorem):
         self.random, self.theorem = random, theorem
         self.pool = [(LabelTree(h, ()), h.symbols) for h in theorem.active]
+        self.sizes = {id(tree): 1 for tree, _ in self.pool}
+        self.largest_first = random.random() < 0.5
         self.earlier = [s for s in db.statements[:theorem.number] if not s.is_hypothesis]
 
     def grow(self, turns):
@@ -181,19 +183,29 @@ class Prover:
             values.update(more)
             children.insert(0, tree)
         result = apply(values, assertion.symbols)
-        if len(result) <= 40 and size(LabelTree(None, tuple(children))) < 250:
-            self.pool.append((LabelTree(assertion, tuple(children)), result))
+        steps = 1 + sum(self.sizes[id(c)] for c in children)
+        if len(result) <= 60 and steps < 250:
+            tree = LabelTree(assertion, tuple(children))
+            self.pool.append((tree, result))
+            self.sizes[id(tree)] = steps
 
     def fitting(self, h, values):
         """Something proved that a hypothesis can be under the values so far, with the values that it adds."""
         names = {v: k for k, v in enumerate(sorted(s for s in h.symbols if s not in values and s in self.theorem_variables(h)), 1)}
         pattern = apply({**values, **{v: (k,) for v, k in names.items()}}, h.symbols)
-        for tree, symbols in self.random.sample(self.pool, len(self.pool)):
+        for tree, symbols in self.in_turn():
             found = unifiers(symbols, pattern, False, 60).found if symbols[0] == pattern[0] else []
             if found:
                 theta = self.random.choice(found)
                 return tree, {v: theta[k] for v, k in names.items()}
         return None
+
+    def in_turn(self):
+        """What is proved, in a random order, or now and then the largest proofs first."""
+        order = self.random.sample(self.pool, len(self.pool))
+        if self.largest_first and self.random.random() < 0.5:
+            order.sort(key=lambda entry: -self.sizes[id(entry[0])])
+        return order
 
     def theorem_variables(self, h):
         """The variables of a hypothesis."""

@@ -161,6 +161,14 @@ class Player:
             ' '.join(self.random.choice(KEYWORDS + ODD) for _ in range(self.random.randint(1, 5))),
         ])
 
+    def theorem(self):
+        """A theorem: any, the last one, or the one with the longest proof."""
+        theorems = [s for s in self.session.db.statements if s.kind == b'$p']
+        if not theorems or self.chance(0.4):
+            return self.label((b'$p',))
+        longest = max(theorems, key=lambda s: s.proof_end - s.proof_start)
+        return self.random.choice([theorems[-1], longest]).label.decode()
+
     def pattern(self):
         """A pattern, with luck one that some labels match."""
         label = self.random.choice(self.labels((b'$p',)))
@@ -212,7 +220,7 @@ class Player:
 
     def next_line(self):
         if not self.planned and self.chance(0.15):
-            self.random.choice([self.plan_trials, self.plan_trials, self.plan_save, self.plan_redo])()
+            self.random.choice([self.plan_trials, self.plan_trials, self.plan_save, self.plan_save, self.plan_redo])()
         if self.planned:
             return self.planned.pop(0)
         if not self.session.db:
@@ -224,7 +232,7 @@ class Player:
             return self.database_line() if self.chance(0.12) else self.edit_line()
         way = self.random.random()
         if way < 0.6:
-            return self.said('PROVE', self.label((b'$p',)) if self.chance(0.4) else self.labels((b'$p',))[-1], *(['/OVERRIDE'] if self.chance(0.5) else []))
+            return self.said('PROVE', self.theorem(), *(['/OVERRIDE'] if self.chance(0.5) else []))
         if way < 0.605:
             return self.said('QUIT', *self.qualifiers('FORCE'))
         return self.edit_line() if way < 0.7 else self.database_line()
