@@ -1,7 +1,5 @@
-// A plain Rust search for unifiers, in the order and with the trials of mmpa: what `bench/unify/run.sh` compares it with.
-// Nothing is proved here. Each kind of search runs 20 times; the time printed is that of one.
-use std::time::Instant;
-
+// A plain Rust search for unifiers, in the order and with the trials of mmpa: what `bench/unify/run.py` compares it with.
+// Nothing is proved here. Its words are the kind of search, and how often it runs.
 #[derive(Clone, Copy, PartialEq, Eq)]
 enum Sym {
     Plain(u32),
@@ -10,7 +8,6 @@ enum Sym {
 
 const OPENING: Sym = Sym::Plain(1);
 const CLOSING: Sym = Sym::Plain(2);
-const ROUNDS: u32 = 20;
 const TRIALS: u32 = 100_000;
 
 type Values = Vec<(u32, Vec<Sym>)>;
@@ -243,17 +240,9 @@ fn nodes(a: &[Sym], b: &[Sym]) -> Vec<Values> {
     found
 }
 
-fn show(name: &str, search: impl Fn() -> Vec<Values>) {
-    let before = Instant::now();
-    let mut found = 0;
-    for _ in 0..ROUNDS {
-        found = search().len();
-    }
-    let each = before.elapsed().as_micros() / ROUNDS as u128;
-    println!("{name}: {found} found, {each} microseconds");
-}
-
 fn main() {
+    let words: Vec<String> = std::env::args().collect();
+    let rounds: u32 = words[2].parse().unwrap();
     let pattern: Vec<Sym> = std::iter::once(Sym::Plain(0))
         .chain((1..=5).map(Sym::Work))
         .collect();
@@ -274,7 +263,14 @@ fn main() {
         Sym::Work(5),
     ];
     right.extend((0..35).map(|k| Sym::Plain(3 + k % 4)));
-    show("one side, brackets off", || parts(&pattern, &target, false));
-    show("one side, brackets on", || parts(&pattern, &target, true));
-    show("both sides, brackets off", || nodes(&left, &right));
+    let mut found = 0;
+    for _ in 0..rounds {
+        found = match words[1].as_str() {
+            "one side, brackets off" => parts(&pattern, &target, false),
+            "one side, brackets on" => parts(&pattern, &target, true),
+            _ => nodes(&left, &right),
+        }
+        .len();
+    }
+    println!("{found} found");
 }

@@ -1,22 +1,16 @@
 -- The first pending step that has an only unifier, by the numbers of the pending steps.
-use Rattle.std.proofs.Common.{zero, suc, ◌≡◌, ℕ, ◌+◌, ◌-◌, ◌≤◌, ◌<◌, Bool, true, false, List, [], ◌∷◌, drop, get_or, length, Option, None, Some, refl, sym, ◌∙◌, ap, subst, arith, if◌then◌else◌}
-use Rattle.std.specs.Prelude.{Result, Ok, Err}
+use Rattle.std.proofs.Common.{suc, ◌≡◌, ℕ, ◌+◌, ◌-◌, ◌≤◌, ◌<◌, Bool, true, false, List, [], ◌∷◌, drop, get_or, length, Option, None, refl, sym, ◌∙◌, ap, subst, arith, if◌then◌else◌}
 use Rattle.std.specs.List.{AllByRecursion as ByRecursion}
-use Rattle.std.proofs.lemmas.List.{drop_all, drop_more}
 use Rattle.std.proofs.lemmas.List.Elements.{All-from_recursion}
 use Rattle.mm_subst.specs.Substitutions.{Pairs}
-use Rattle.mm_unify.specs.declared.listing.Listing.{Listing}
 use Rattle.mm_unify.specs.declared.listing.Settings.{Settings}
 use Rattle.mm_plain.specs.declared.plain.Plain.{Plain}
 use Rattle.mm_plain.specs.Numbers.{numbers_from, pending_in}
 use Rattle.mm_plain.specs.Shape.{steps_of, step_at, size_of}
 use Rattle.mm_plain.specs.Sources.{is_pending}
 use Rattle.mm_plain.proofs.Equations.{length-steps_of}
-use Rattle.mm_edit.specs.Edited.{IsListing, answer_in}
 use Rattle.mm_edit.specs.Listed.{listed_at, only_unifier}
 use Rattle.mm_edit.specs.Unifying.{first_unifier, or_next, unifier_at, unifier_in}
-use Rattle.mm_edit.specs.declared.edit_fault.EditFault.{EditFault}
-use Rattle.mm_edit.proofs.Listings.{chosen-in}
 
 -- the first unifier of steps with these numbers
 abbrev pub firsts : (ℕ → Option Pairs) → List ℕ → Option Pairs
@@ -90,35 +84,3 @@ pub first-pending : (bytes : List ℕ) (set : Settings) (x : Plain) (ks : List �
 first-pending bytes set x ks e =
     ap (firsts (at_number bytes set x)) e
     ∙ first-by bytes set (at_number bytes set x) x 1 (steps_of x) (λ j l. let z : 1 + j - 1 ≡ j = omega arith in ap (λ i. unifier_at bytes set (get_or (steps_of x) i x)) z)
-
-next-first : (f : ℕ → Option Pairs) (ks : List ℕ) (i d : ℕ) → i < length ks → firsts f (drop i ks) ≡ or_next (f (get_or ks i d)) (firsts f (drop (i + 1) ks))
-next-first f ks i d l = ap (firsts f) (drop_more ks i d l)
-
-at-pending : (bytes : List ℕ) (set : Settings) (x : Plain) (ks : List ℕ) (i d : ℕ) (t : Listing) (r : Result Pairs EditFault) → ks ≡ pending_in bytes x → i < length ks
-    → firsts (at_number bytes set x) (drop i ks) ≡ first_unifier bytes set (steps_of x) → IsListing t (listed_at bytes set (step_at x (get_or ks i d))) → only_unifier (answer_in t) ≡ r
-    → or_next (unifier_in r) (firsts (at_number bytes set x) (drop (i + 1) ks)) ≡ first_unifier bytes set (steps_of x)
-at-pending bytes set x ks i d t r e l so_far h o =
-    let y : Plain = step_at x (get_or ks i d) in
-    let rest : Option Pairs = firsts (at_number bytes set x) (drop (i + 1) ks) in
-    sym (ap (λ q. or_next (unifier_in q) rest) (chosen-in t (listed_at bytes set y) None h ∙ o))
-    ∙ sym (ap (λ q. or_next q rest) (is-pending bytes set y (pending-at bytes x ks i d e l).pending))
-    ∙ sym (next-first (at_number bytes set x) ks i d l)
-    ∙ so_far
-
--- a step with an only unifier is the first, and one with none is passed over
-pub first-here : (bytes : List ℕ) (set : Settings) (x : Plain) (ks : List ℕ) (i d : ℕ) (t : Listing) (u : Pairs) → ks ≡ pending_in bytes x → i < length ks
-    → firsts (at_number bytes set x) (drop i (pending_in bytes x)) ≡ first_unifier bytes set (steps_of x) → IsListing t (listed_at bytes set (step_at x (get_or ks i d))) → only_unifier (answer_in t) ≡ Ok u
-    → Some u ≡ first_unifier bytes set (steps_of x)
-first-here bytes set x ks i d t u e l so_far h o =
-    at-pending bytes set x (pending_in bytes x) i d t (Ok u) refl (subst (λ zs. i < length zs) e l) so_far (subst (λ zs. IsListing t (listed_at bytes set (step_at x (get_or zs i d)))) e h) o
-
-pub first-later : (bytes : List ℕ) (set : Settings) (x : Plain) (ks : List ℕ) (i d : ℕ) (t : Listing) (f : EditFault) → ks ≡ pending_in bytes x → i < length ks
-    → firsts (at_number bytes set x) (drop i (pending_in bytes x)) ≡ first_unifier bytes set (steps_of x) → IsListing t (listed_at bytes set (step_at x (get_or ks i d))) → only_unifier (answer_in t) ≡ Err f
-    → firsts (at_number bytes set x) (drop (i + 1) (pending_in bytes x)) ≡ first_unifier bytes set (steps_of x)
-first-later bytes set x ks i d t f e l so_far h o =
-    at-pending bytes set x (pending_in bytes x) i d t (Err f) refl (subst (λ zs. i < length zs) e l) so_far (subst (λ zs. IsListing t (listed_at bytes set (step_at x (get_or zs i d)))) e h) o
-
--- no step has one
-pub first-none : (bytes : List ℕ) (set : Settings) (x : Plain) (ks : List ℕ) (i : ℕ) → ks ≡ pending_in bytes x → length ks ≤ i → firsts (at_number bytes set x) (drop i (pending_in bytes x)) ≡ first_unifier bytes set (steps_of x)
-    → None ≡ first_unifier bytes set (steps_of x)
-first-none bytes set x ks i e l so_far = sym (ap (firsts (at_number bytes set x)) (drop_all i (pending_in bytes x) (subst (λ zs. length zs ≤ i) e l))) ∙ so_far

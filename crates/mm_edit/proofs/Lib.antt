@@ -9,6 +9,7 @@ pub mod Falling
 pub mod Initializing
 pub mod Deleting
 pub mod Replacing
+pub mod ReplaceLemmas
 pub mod Short
 pub mod Listings
 pub mod TryingLemmas
@@ -17,8 +18,16 @@ pub mod UnifyLemmas
 pub mod FirstLemmas
 pub mod FreshLemmas
 pub mod RoundLemmas
+pub mod QuietLemmas
 pub mod LabelLists
 pub mod LoadLemmas
 pub mod LabelTreeLemmas
 pub mod LoadedLemmas
 pub mod LoadValid
+pub mod PartialBinding
+pub mod PartialLengths
+pub mod BuiltParts
+pub mod BuiltFold
+pub mod BuiltFinds
+pub mod BuiltReady
+pub mod BuiltLaw

@@ -1,18 +1,18 @@
 -- What loading comes to, from what its parts answer.
-use Rattle.std.proofs.Common.{zero, suc, ◌≡◌, ◌≢◌, ℕ, ◌+◌, ◌≤◌, ◌<◌, min, Bool, true, false, not, ◌&&◌, nat_lt, if◌then◌else◌, List, [], ◌∷◌, length, Option, None, Some, refl, sym, ◌∙◌, ap, subst, arith}
+use Rattle.std.proofs.Common.{◌≡◌, ◌≢◌, ℕ, ◌+◌, ◌≤◌, ◌<◌, Bool, true, false, ◌&&◌, nat_lt, if◌then◌else◌, List, [], ◌∷◌, length, Option, None, Some, refl, sym, ◌∙◌, ap, subst, arith}
 use Rattle.std.specs.Prelude.{Result, Ok, Err, IsErr}
 use Rattle.std.specs.List.{list_all, All, AllByRecursion as ByRecursion}
-use Rattle.std.proofs.lemmas.Bool.{true≢false, false≢true}
+use Rattle.std.proofs.lemmas.Bool.{false≢true}
 use Rattle.std.proofs.lemmas.Bool.Decides.{nat_tests}
 use Rattle.std.proofs.lemmas.List.Elements.{All-from_recursion}
 use Rattle.std.proofs.lemmas.Option.{none-some, same_Some}
-use Rattle.mm_base.specs.Refusals.{unless, given, found_or}
+use Rattle.mm_base.specs.Refusals.{unless, given}
 use Rattle.mm_proof.specs.Compacting.{alone}
 use Rattle.mm_proof.specs.Decoding.{decoded}
 use Rattle.mm_proof.specs.Folding.{onward}
 use Rattle.mm_proof.specs.Forests.{arity_of, plain_steps, trees_in}
 use Rattle.mm_proof.specs.Shapes.{height_in, shape_by, shape_of, steps_in}
-use Rattle.mm_proof.specs.Trees.{AreWhole, Tree, trees_of}
+use Rattle.mm_proof.specs.Trees.{Tree}
 use Rattle.mm_proof.specs.declared.extent.Shape.{Shape}
 use Rattle.mm_proof.specs.declared.fault.ProofFault.{ProofFault}
 use Rattle.mm_proof.specs.declared.step.ProofStep.{ProofStep}
@@ -21,12 +21,12 @@ use Rattle.mm_subst.specs.Statements.{statement_of}
 use Rattle.mm_unify.specs.declared.listing.Settings.{Settings}
 use Rattle.mm_plain.specs.LabelTrees.{MayStand, fresh_proof_of}
 use Rattle.mm_plain.specs.Shape.{Proof}
-use Rattle.mm_plain.specs.Valid.{most_levels, most_steps, most_works}
-use Rattle.mm_tree.specs.Labelled.{FoldLow, draws_all}
+use Rattle.mm_plain.specs.Valid.{most_levels, most_steps}
+use Rattle.mm_tree.specs.Labelled.{FoldLow}
 use Rattle.mm_edit.specs.Labelling.{AreLabels, label_tree_at, labels_for, tree_read}
-use Rattle.mm_edit.specs.Loading.{AreLabelsOf, HasNone, HasSteps, all_visited, has_many_levels, has_many_steps, has_many_works, loading, may_label, measured, or_too_long, stands_at}
+use Rattle.mm_edit.specs.Loading.{AreLabelsOf, HasNone, all_visited, has_many_levels, has_many_steps, has_many_works, loading, may_label, measured, or_too_long, stands_at}
 use Rattle.mm_edit.specs.declared.loading.LoadFault.{LoadFault}
-use Rattle.mm_edit.specs.declared.loading.LoadFault.TheVariants.{NoTree, TooManySteps, TooDeep, WorkSpent, TooLong, Memory}
+use Rattle.mm_edit.specs.declared.loading.LoadFault.TheVariants.{NoTree, TooManySteps, TooDeep, WorkSpent, Memory}
 use Rattle.mm_edit.proofs.LabelTreeLemmas.{fold_low, length-labels}
 
 -- a tree that is measured

@@ -1,5 +1,5 @@
 -- ASSIGN: an unknown step is made known, over fresh work variables.
-use Rattle.std.specs.Prelude.{ℕ, ◌+◌, not, List, [], ◌∷◌, length, Result}
+use Rattle.std.specs.Prelude.{ℕ, not, List, [], ◌∷◌, length, Result}
 use Rattle.mm_base.specs.Refusals.{unless}
 use Rattle.mm_subst.specs.Statements.{statement_of}
 use Rattle.mm_subst.specs.Substitutions.{applied}

@@ -9,6 +9,8 @@ use Rattle.mm_tree.specs.declared.fault.BindFault.{BindFault}
 use Rattle.mm_tree.specs.declared.fault.BindFault.TheVariants as bind
 use Rattle.mm_tree.specs.declared.fault.GraftFault.{GraftFault}
 use Rattle.mm_tree.specs.declared.fault.GraftFault.TheVariants as graft
+use Rattle.mm_tree.specs.declared.fault.ReplaceFault.{ReplaceFault}
+use Rattle.mm_tree.specs.declared.fault.ReplaceFault.TheVariants as replace
 use Rattle.mm_edit.specs.Unifying.{shows_listing}
 use Rattle.mm_edit.specs.declared.edit_fault.EditFault.{EditFault}
 use Rattle.mm_edit.specs.declared.unification.UnifyFault.{UnifyFault}
@@ -66,3 +68,10 @@ abbrev pub graft_fault_of : GraftFault → EditFault
 graft_fault_of graft.TooManySteps = TooManySteps
 graft_fault_of graft.TooDeep = TooDeep
 graft_fault_of graft.Memory = Memory
+
+-- and that of a step that does not name another statement
+abbrev pub replace_fault_of : ReplaceFault → EditFault
+replace_fault_of (replace.TooLong step) = TooLong step
+replace_fault_of replace.TooManySteps = TooManySteps
+replace_fault_of replace.TooDeep = TooDeep
+replace_fault_of replace.Memory = Memory

@@ -6,6 +6,7 @@ pub mod Assigning
 pub mod Replacing
 pub mod Letting
 pub mod Unifying
+pub mod Quiet
 pub mod Initializing
 pub mod Deleting
 pub mod Keeping
@@ -13,3 +14,4 @@ pub mod Edited
 pub mod Trying
 pub mod Labelling
 pub mod Loading
+pub mod Built

@@ -1,5 +1,5 @@
 -- UNIFY: a pending step's target and source are made the same.
-use Rattle.std.specs.Prelude.{ℕ, zero, suc, Bool, true, false, not, List, [], ◌∷◌, count_by, is_none, Option, None, Some, Result, Ok, Err, if◌then◌else◌}
+use Rattle.std.specs.Prelude.{ℕ, zero, suc, Bool, true, false, not, List, [], ◌∷◌, is_none, Option, None, Some, Result, Ok, Err, if◌then◌else◌}
 use Rattle.mm_base.specs.Refusals.{unless, given}
 use Rattle.mm_subst.specs.Substitutions.{Pairs}
 use Rattle.mm_unify.specs.declared.listing.Settings.{Settings}

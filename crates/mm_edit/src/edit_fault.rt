@@ -1,10 +1,10 @@
 //! Why a proof is not edited.
 
 ghost use Rattle.std.specs.Prelude.{◌≡◌};
-ghost use Rattle.mm_edit.specs.Edited.{edit_fault_of, graft_fault_of};
+ghost use Rattle.mm_edit.specs.Edited.{edit_fault_of, graft_fault_of, replace_fault_of};
 ghost use Rattle.mm_edit.specs.declared.edit_fault.EditFault.TheVariants.{Memory, WorkSpent};
 
-use mm_tree::{BindFault, GraftFault, WorkSpent};
+use mm_tree::{BindFault, GraftFault, ReplaceFault, WorkSpent};
 use std::alloc::AllocError;
 use thiserror::Error;
 
@@ -94,6 +94,19 @@ impl From<GraftFault> for EditFault {
             GraftFault::TooManySteps => EditFault::TooManySteps,
             GraftFault::TooDeep => EditFault::TooDeep,
             GraftFault::Memory => EditFault::Memory,
+        }
+    }
+}
+
+impl From<ReplaceFault> for EditFault {
+    ghost from_gives = { λ r e. e ≡ replace_fault_of r };
+
+    fn from(fault: ReplaceFault) -> EditFault {
+        match fault {
+            ReplaceFault::TooLong(step) => EditFault::TooLong(step),
+            ReplaceFault::TooManySteps => EditFault::TooManySteps,
+            ReplaceFault::TooDeep => EditFault::TooDeep,
+            ReplaceFault::Memory => EditFault::Memory,
         }
     }
 }

@@ -1,17 +1,25 @@
 //! What holds of each edit.
 
-ghost use Rattle.std.specs.Prelude.{◌≡◌, ℕ, List, Option, Ok, None, All};
+ghost use Rattle.std.specs.Prelude.{◌≡◌, true, ℕ, List, Option, Ok, None, Some, All};
 ghost use Rattle.mm_subst.specs.declared.symbol.WSym.{WSym};
 ghost use Rattle.mm_unify.specs.declared.listing.Settings.{Settings};
 ghost use Rattle.mm_plain.specs.Shape.{Proof, steps_of};
 ghost use Rattle.mm_plain.specs.Valid.{IsKnownSymbol, IsString, setting_of};
+ghost use Rattle.mm_plain.specs.LabelTrees.{fresh_proof_of};
+ghost use Rattle.mm_proof.specs.Trees.{Tree};
+ghost use Rattle.mm_subst.specs.Statements.{statement_of};
 ghost use Rattle.mm_edit.specs.Assigning.{assigned};
+ghost use Rattle.mm_edit.specs.Built.{IsBuiltProof};
 ghost use Rattle.mm_edit.specs.Deleting.{deleted, floats_deleted};
 ghost use Rattle.mm_edit.specs.Initializing.{all_initialized, initialized};
 ghost use Rattle.mm_edit.specs.Keeping.{IsKept, IsProofOf};
+ghost use Rattle.mm_edit.specs.Labelling.{label_tree_at, labels_for};
 ghost use Rattle.mm_edit.specs.Letting.{step_let, variable_let};
+ghost use Rattle.mm_edit.specs.Loading.{all_visited, loading, may_label, measured};
 ghost use Rattle.mm_edit.specs.Replacing.{replaced};
 ghost use Rattle.mm_edit.specs.Unifying.{all_unified, first_unifier, step_unified};
+
+use mm_scope::mandatory_variables_differ;
 
 /// Each accepted edit of a valid proof gives a valid proof of the same goal, and its counter of work variables never
 /// falls. What is let for a work variable or for a step has symbols of the database, and work variables that were drawn.
@@ -35,4 +43,13 @@ pub fn unify_all_leaves_no_only_unifier(bytes: &[u8])
     ensures { (at : ℕ) (set : Settings) (goal : List WSym) (p q : Proof) → IsProofOf bytes.now at goal p → all_unified bytes.now set p ≡ Ok q → first_unifier bytes.now set (steps_of q.plain) ≡ None }
 {
     let _ = bytes;
+}
+
+/// A built proof is what loading comes to: the visits of the steps of the tree that its labels begin, with fresh work
+/// variables, give this proof.
+pub fn built_proofs_are_loaded(bytes: &[u8])
+    ensures visited { (at : ℕ) (set : Settings) (labels : List (Option ℕ)) (p q : Proof) → IsBuiltProof bytes.now at set labels p → fresh_proof_of bytes.now (statement_of bytes.now at) labels ≡ Some q → all_visited bytes.now set q ≡ Ok p }
+    ensures loaded { (at : ℕ) (set : Settings) (t : Tree) (p : Proof) → measured (label_tree_at bytes.now at) ≡ Ok t → may_label bytes.now at t ≡ true → IsBuiltProof bytes.now at set (labels_for t) p → loading bytes.now at set ≡ Ok p }
+{
+    mandatory_variables_differ(bytes);
 }

@@ -1,5 +1,5 @@
 -- The answers of edits fit a sound state.
-use Rattle.std.proofs.Common.{◌≡◌, ℕ, Bool, true, false, cond, not, ◌||◌, List, [], ◌∷◌, map, Option, None, Some, Result, Ok, Err, refl, sym, ◌∙◌, ap, subst}
+use Rattle.std.proofs.Common.{◌≡◌, ℕ, Bool, true, false, cond, ◌||◌, List, [], ◌∷◌, map, Option, Some, Result, Ok, Err, refl, sym, ◌∙◌, ap, subst}
 use Rattle.mm_scope.specs.Contents.{is_variable_of, stated_at}
 use Rattle.mm_subst.specs.Statements.{statement_of, symbol_of}
 use Rattle.mm_subst.specs.Symbols.{has_work, is_work}
@@ -7,14 +7,17 @@ use Rattle.mm_subst.specs.declared.symbol.WSym.{WSym}
 use Rattle.mm_subst.specs.declared.symbol.WSym.TheVariants.{Const, Var}
 use Rattle.mm_plain.specs.Shape.{Proof, size_of, step_at, target_of}
 use Rattle.mm_unify.specs.declared.listing.Settings.{Settings}
+use Rattle.mm_edit.specs.Assigning.{assigned}
 use Rattle.mm_edit.specs.Keeping as keeping
 use Rattle.mm_edit.specs.Listed.{listed_at}
+use Rattle.mm_edit.specs.Replacing.{replaced}
 use Rattle.mm_edit.specs.Steps.{is_unknown}
 use Rattle.mm_edit.specs.declared.edit_fault.EditFault.{EditFault}
 use Rattle.mm_edit.proofs.Assigning.{kept-assigned}
 use Rattle.mm_edit.proofs.Deleting.{kept-floats_deleted}
 use Rattle.mm_edit.proofs.Initializing.{kept-all_initialized, kept-deleted, kept-initialized}
 use Rattle.mm_edit.proofs.Letting.{kept-variable_let, kept-step_let}
+use Rattle.mm_edit.proofs.Replacing.{kept-replaced}
 use Rattle.mm_edit.proofs.Unifying.{kept-step_unified, kept-all_unified}
 use Rattle.mm_command.specs.declared.command.StepWord.{StepWord}
 use Rattle.mm_command.specs.Meanings as meaning
@@ -31,7 +34,7 @@ use Rattle.mm_shell.specs.declared.refusal.Refusal.TheVariants.{Guarded, Nothing
 use Rattle.mm_shell.proofs.FindLemmas.{proof_found}
 use Rattle.mm_shell.proofs.HistoryLemmas.{edited_open}
 use Rattle.mm_shell.proofs.FitLemmas.{rows_fit, given_fits, done_fits, rows_end}
-use Rattle.mm_edit_commands.specs.Edits.{Edit, assign, counts_of, delete_numbered, edit_of, edit_in, edits, edit_answer, initialize_numbered, let_step, let_variable, unify_numbered}
+use Rattle.mm_edit_commands.specs.Edits.{Edit, assign, counts_of, delete_numbered, edit_of, edit_in, edits, edit_answer, initialize_numbered, let_step, let_variable, replace, unify_numbered, with_statement}
 use Rattle.mm_edit_commands.specs.Refusals.{edit_refusal, unify_refusal, wrong_word}
 use Rattle.mm_edit_commands.specs.Steps.{step_number}
 use Rattle.mm_edit_commands.specs.Values.{is_empty, value_of}
@@ -74,12 +77,27 @@ unfolding given
 given_ok (Ok a) f b e = (a, refl, e)
 given_ok (Err r) f b e = cc
 
+-- an edit by the statement with a label is accepted
+named_ok : (bytes label : List ℕ) (guarded_too : Bool) (edit : ℕ → Result Proof EditFault) (refuse : EditFault → Refusal) (q : Proof)
+    → with_statement bytes label guarded_too edit refuse ≡ Ok q → (id : ℕ) × (edit id ≡ Ok q)
+named_ok bytes label guarded_too edit refuse q e =
+    let found = given_ok (statement_named bytes label) _ q e in
+    let done = rows_end ((is_forbidden guarded_too bytes found.0, Guarded label) ∷ []) _ q found.2 in
+    (found.0, ok_by (edit found.0) refuse q done)
+
 assign_keeps : (set : Settings) (bytes : List ℕ) (theorem : ℕ) (p q : Proof) (step : StepWord) (label : List ℕ) (guarded_too : Bool) → IsProofOf bytes theorem p
     → assign set bytes theorem p step label guarded_too ≡ Ok q → IsProofOf bytes theorem q
 assign_keeps set bytes theorem p q step label guarded_too valid e =
-    let found = given_ok (statement_named bytes label) _ q e in
-    let done = rows_end ((is_forbidden guarded_too bytes found.0, Guarded label) ∷ []) _ q found.2 in
-    (kept-assigned bytes theorem set (statement_of bytes theorem) p q (step_number p.plain step) found.0 (of_statement bytes theorem p valid) (ok_by _ (edit_refusal label (step_number p.plain step)) q done)).valid
+    let k : ℕ = step_number p.plain step in
+    let named = named_ok bytes label guarded_too (λ (id : ℕ). assigned bytes theorem set p k id) (edit_refusal label k) q e in
+    (kept-assigned bytes theorem set (statement_of bytes theorem) p q k named.0 (of_statement bytes theorem p valid) named.1).valid
+
+replace_keeps : (set : Settings) (bytes : List ℕ) (theorem : ℕ) (p q : Proof) (step : StepWord) (label : List ℕ) (guarded_too : Bool) → IsProofOf bytes theorem p
+    → replace set bytes theorem p step label guarded_too ≡ Ok q → IsProofOf bytes theorem q
+replace_keeps set bytes theorem p q step label guarded_too valid e =
+    let k : ℕ = step_number p.plain step in
+    let named = named_ok bytes label guarded_too (λ (id : ℕ). replaced bytes theorem set p k id) (edit_refusal label k) q e in
+    (kept-replaced bytes theorem set (statement_of bytes theorem) p q k named.0 (of_statement bytes theorem p valid) named.1).valid
 
 let_variable_keeps : (bytes : List ℕ) (theorem : ℕ) (p q : Proof) (number : ℕ) (text : List ℕ) (word : ℕ) → IsProofOf bytes theorem p
     → let_variable bytes theorem p number text word ≡ Ok q → IsProofOf bytes theorem q
@@ -107,6 +125,7 @@ delete_keeps bytes theorem p q k valid e = (kept-deleted bytes theorem (statemen
 pub edit_keeps : (m : Meaning) (set : Settings) (bytes : List ℕ) (theorem : ℕ) (p q : Proof) → IsProofOf bytes theorem p → edit_of m set bytes theorem p ≡ Ok q → IsProofOf bytes theorem q
 unfolding edit_of
 edit_keeps (meaning.Assign step label guarded_too) set bytes theorem p q valid e = assign_keeps set bytes theorem p q step label guarded_too valid e
+edit_keeps (meaning.Replace step label guarded_too) set bytes theorem p q valid e = replace_keeps set bytes theorem p q step label guarded_too valid e
 edit_keeps (meaning.LetVariable number text word) set bytes theorem p q valid e = let_variable_keeps bytes theorem p q number text word valid e
 edit_keeps (meaning.LetStep step text word) set bytes theorem p q valid e = let_step_keeps set bytes theorem p q step text word valid e
 edit_keeps (meaning.UnifyStep step choice) set bytes theorem p q valid e = unify_step_keeps set bytes theorem p q (step_number p.plain step) choice valid e

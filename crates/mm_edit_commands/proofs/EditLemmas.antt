@@ -92,6 +92,18 @@ edit_refused label k meaning f old now h = refused_by (edit_refusal label k) (ed
 pub edit_done : (refuse : EditFault → Refusal) (meaning : Result Proof EditFault) (old now : Proof) → meaning ≡ Ok now → EditsTree (or_refusal meaning refuse) old (Ok tt) now
 edit_done refuse meaning old now e = ap (λ (x : Result Proof EditFault). or_refusal x refuse) e
 
+-- the same of an edit of the step j, which a word names
+pub step_done : (label : List ℕ) (k j : ℕ) (edit : ℕ → Result Proof EditFault) (old now : Proof) → k ≡ j → edit k ≡ Ok now
+    → EditsTree (or_refusal (edit j) (edit_refusal label j)) old (Ok tt) now
+step_done label k j edit old now named e = edit_done (edit_refusal label j) (edit j) old now (ap edit (sym named) ∙ e)
+
+pub step_refused : (label : List ℕ) (k j : ℕ) (edit : ℕ → Result Proof EditFault) (f : EditFault) (old now : Proof) (r : Refusal) → k ≡ j → r ≡ edit_refusal label k f → IsDone (edit k) (Err f) old now
+    → EditsTree (or_refusal (edit j) (edit_refusal label j)) old (Err r) now
+step_refused label k j edit f old now r named is h =
+    subst (λ (i : ℕ). EditsTree (or_refusal (edit i) (edit_refusal label i)) old (Err r) now) named
+    (subst (λ (x : Refusal). EditsTree (or_refusal (edit k) (edit_refusal label k)) old (Err x) now) (sym is)
+    (edit_refused label k (edit k) f old now h))
+
 -- ## UNIFY STEP
 
 -- the unifiers that a refusal tells are those that were found

@@ -1,5 +1,5 @@
 -- What the ending of an edit makes of the open proof.
-use Rattle.std.proofs.Common.{◌≡◌, ℕ, Bool, true, false, List, [], ◌∷◌, ◌++◌, map, refl, sym, ◌∙◌, ap}
+use Rattle.std.proofs.Common.{◌≡◌, ℕ, Bool, true, false, List, [], ◌∷◌, ◌++◌, map, sym, ◌∙◌, ap}
 use Rattle.circular_buffer.specs.Buffer.{keep_last}
 use Rattle.mm_plain.specs.Shape.{Proof}
 use Rattle.mm_tree.specs.Trees as trees

@@ -8,8 +8,10 @@ use Rattle.mm_edit.specs.Deleting.{deleted, floats_deleted}
 use Rattle.mm_edit.specs.Initializing.{all_initialized, initialized}
 use Rattle.mm_edit.specs.Letting.{step_let, variable_let}
 use Rattle.mm_edit.specs.Listed.{listed_at}
+use Rattle.mm_edit.specs.Replacing.{replaced}
 use Rattle.mm_edit.specs.Steps.{is_unknown}
 use Rattle.mm_edit.specs.Unifying.{all_unified, step_unified}
+use Rattle.mm_edit.specs.declared.edit_fault.EditFault.{EditFault}
 use Rattle.mm_command.specs.declared.command.StepWord.{StepWord}
 use Rattle.mm_command.specs.Meanings as meaning
 use Rattle.mm_command.specs.Meanings.{Meaning}
@@ -27,13 +29,22 @@ use Rattle.mm_edit_commands.specs.Steps.{step_number}
 use Rattle.mm_edit_commands.specs.Values.{is_empty, value_of}
 use Rattle.mm_edit_commands.specs.declared.edits.Counts.{Counts}
 
--- ## ASSIGN
+-- ## ASSIGN and REPLACE
+
+-- an edit by the statement with a label, where there is one that may be used
+abbrev pub with_statement : List ℕ → List ℕ → Bool → (ℕ → Result Proof EditFault) → (EditFault → Refusal) → Result Proof Refusal
+with_statement bytes label guarded_too edit refuse =
+    given (statement_named bytes label) (λ id.
+    unless ((is_forbidden guarded_too bytes id, Guarded label) ∷ [])
+    (or_refusal (edit id) refuse))
 
 abbrev pub assign : Settings → List ℕ → ℕ → Proof → StepWord → List ℕ → Bool → Result Proof Refusal
 assign set bytes theorem p step label guarded_too =
-    given (statement_named bytes label) (λ id.
-    unless ((is_forbidden guarded_too bytes id, Guarded label) ∷ [])
-    (or_refusal (assigned bytes theorem set p (step_number p.plain step) id) (edit_refusal label (step_number p.plain step))))
+    with_statement bytes label guarded_too (λ id. assigned bytes theorem set p (step_number p.plain step) id) (edit_refusal label (step_number p.plain step))
+
+abbrev pub replace : Settings → List ℕ → ℕ → Proof → StepWord → List ℕ → Bool → Result Proof Refusal
+replace set bytes theorem p step label guarded_too =
+    with_statement bytes label guarded_too (λ id. replaced bytes theorem set p (step_number p.plain step) id) (edit_refusal label (step_number p.plain step))
 
 -- ## LET
 
@@ -93,6 +104,7 @@ delete_floats bytes p = or_refusal (floats_deleted bytes p) (edit_refusal [] 0)
 
 abbrev pub is_built : Meaning → Bool
 is_built (meaning.Assign step label guarded_too) = true
+is_built (meaning.Replace step label guarded_too) = true
 is_built (meaning.LetVariable number text word) = true
 is_built (meaning.LetStep step text word) = true
 is_built (meaning.UnifyStep step choice) = true
@@ -107,6 +119,7 @@ is_built _ = false
 -- the proof of a theorem after an edit under the settings
 unfoldable pub edit_of : Meaning → Settings → List ℕ → ℕ → Proof → Result Proof Refusal
 edit_of (meaning.Assign step label guarded_too) set bytes theorem p = assign set bytes theorem p step label guarded_too
+edit_of (meaning.Replace step label guarded_too) set bytes theorem p = replace set bytes theorem p step label guarded_too
 edit_of (meaning.LetVariable number text word) set bytes theorem p = let_variable bytes theorem p number text word
 edit_of (meaning.LetStep step text word) set bytes theorem p = let_step set bytes theorem p step text word
 edit_of (meaning.UnifyStep step choice) set bytes theorem p = unify_step set bytes p step choice

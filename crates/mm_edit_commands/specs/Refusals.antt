@@ -4,7 +4,6 @@ use Rattle.mm_edit.specs.declared.edit_fault.EditFault.{EditFault}
 use Rattle.mm_edit.specs.declared.edit_fault.EditFault.TheVariants as fault
 use Rattle.mm_subst.specs.Substitutions.{Pairs}
 use Rattle.mm_unify.specs.declared.listing.Listing.{Listing}
-use Rattle.mm_command.specs.declared.fault.LineFault.{LineFault}
 use Rattle.mm_shell.specs.Choices.{choices_text}
 use Rattle.mm_shell.specs.declared.refusal.Refusal.{Refusal}
 use Rattle.mm_shell.specs.declared.refusal.Refusal.TheVariants.{WrongWord, TooManySteps, TooDeep, NoStep, StepKnown, StepUnknown, NotEarlier, NotActive, NoUnifier, TooLong, TrialsSpent, LengthSpent, SeveralUnifiers, NotPending, NoChoice, OccursInValue, NothingChanged, OutOfMemory, WorkSpent}

@@ -1,5 +1,5 @@
 -- Which step a word of a command names.
-use Rattle.std.specs.Prelude.{ℕ, List, Option, Some, None, is_none, nat_le, if◌then◌else◌}
+use Rattle.std.specs.Prelude.{ℕ, Option, Some, None, is_none, nat_le, if◌then◌else◌}
 use Rattle.mm_plain.specs.declared.plain.Plain.{Plain}
 use Rattle.mm_plain.specs.Numbers.{first_from, labels_in, last_unknown_of}
 use Rattle.mm_plain.specs.Shape.{size_of}

@@ -16,6 +16,7 @@ use crate::assign::assign;
 use crate::delete::{delete_all, delete_floats, delete_step};
 use crate::initialize::{initialize_all, initialize_step};
 use crate::let_text::{let_step, let_variable};
+use crate::replace::replace;
 use crate::unify::{unify_all, unify_step};
 use mm_base::{Memory, Steps};
 use mm_command::Command;
@@ -65,6 +66,7 @@ fn is_built(command: Command<'_>) -> bool
 {
     match command {
         Command::Assign { .. }
+        | Command::Replace { .. }
         | Command::LetVariable { .. }
         | Command::LetStep { .. }
         | Command::UnifyStep { .. }
@@ -178,6 +180,21 @@ fn edit_tree<'a, L: Ledger>(
             label,
             guarded_too,
         } => assign(
+            alloc,
+            settings,
+            database,
+            theorem,
+            tree,
+            step,
+            label,
+            guarded_too,
+            steps,
+        ),
+        Command::Replace {
+            step,
+            label,
+            guarded_too,
+        } => replace(
             alloc,
             settings,
             database,

@@ -7,6 +7,7 @@ mod edits;
 mod initialize;
 mod let_text;
 mod refusals;
+mod replace;
 mod step_words;
 mod unify;
 

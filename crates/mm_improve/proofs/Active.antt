@@ -8,7 +8,7 @@ use Rattle.mm_scope.specs.Events.{Event, constant, variable, float, essential, a
 use Rattle.mm_subst.specs.declared.symbol.WSym.{WSym}
 use Rattle.mm_subst.specs.Statements.{statement_of, symbol_of}
 use Rattle.mm_plain.specs.Forms.{IsFormed}
-use Rattle.mm_improve.specs.Grammars.{IsStatedAs}
+use Rattle.mm_improve.proofs.Forms.{IsStatedAs}
 
 abbrev Low : ℕ → List ℕ → Type 0
 Low n xs = AllByRecursion (λ k. k < n) xs

@@ -18,3 +18,10 @@ pub mod Ranking
 pub mod Placing
 pub mod Active
 pub mod Sifting
+pub mod Plain
+pub mod Forms
+pub mod Agreeing
+pub mod Limits
+pub mod Limited
+pub mod ActiveKinds
+pub mod Unfolding

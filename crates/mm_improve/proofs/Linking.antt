@@ -27,7 +27,8 @@ use Rattle.mm_improve.specs.Assertions.{Terms, sigma_by, are_apart, are_parted}
 use Rattle.mm_improve.specs.Ranks as ranks
 use Rattle.mm_improve.specs.Items as items
 use Rattle.mm_improve.specs.Items.{Goal, Use, value}
-use Rattle.mm_improve.specs.Grammars.{split, place, place_or_none, items_of, seen_in, codes_for, order_for, assertion_of, grammar_of, sigma_of, use_by, IsPlainAssertion}
+use Rattle.mm_improve.specs.Grammars.{split, place, place_or_none, items_of, seen_in, codes_for, order_for, assertion_of, grammar_of, sigma_of, use_by}
+use Rattle.mm_improve.proofs.Forms.{IsPlainAssertion}
 use Rattle.mm_improve.proofs.Translating.{AreSeen, goals, seen-value, same-matches, filtered, fresh-constant}
 use Rattle.mm_improve.proofs.Covering.{ends}
 

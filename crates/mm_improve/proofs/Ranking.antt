@@ -1,7 +1,6 @@
 -- The chosen proof by unifiers is the chosen proof by items.
 use Rattle.std.proofs.Common.{◌≡◌, ℕ, zero, suc, ◌≤◌, ◌<◌, List, [], ◌∷◌, ◌++◌, Option, None, Some, Bool, true, false, cond, ◌||◌, refl, sym, ◌∙◌, ap, arith, inl, inr, subst, length, get_or, map, take, drop, leb, if◌then◌else◌}
-use Rattle.std.specs.List.{list_all, flat_map, AllByRecursion, All}
-use Rattle.std.proofs.lemmas.List.Elements.{recursion_from_All}
+use Rattle.std.specs.List.{list_all, flat_map, AllByRecursion}
 use Rattle.std.specs.Cmp.Lexicographic.{pointwise}
 use Rattle.std.proofs.lemmas.Bool.{cases_Bool, le-ltb, ne_eqb}
 use Rattle.std.proofs.lemmas.List.{map-append}
@@ -24,7 +23,8 @@ use Rattle.mm_improve.specs.Assertions.{Terms, plain_assertions, parts}
 use Rattle.mm_improve.specs.Ranks as ranks
 use Rattle.mm_improve.specs.Items as items
 use Rattle.mm_improve.specs.Items.{Goal, no_goal, Use, value, by_use, by_hypothesis}
-use Rattle.mm_improve.specs.Grammars.{split, place, place_or_none, codes_for, order_for, assertion_of, hypothesis_of, grammar_of, sigma_of, use_by, chosen_by, IsPlainAssertion, IsStatedAs, AnswersAgree}
+use Rattle.mm_improve.specs.Grammars.{split, place, place_or_none, codes_for, order_for, assertion_of, hypothesis_of, grammar_of, sigma_of, use_by, chosen_by}
+use Rattle.mm_improve.proofs.Forms.{IsPlainAssertion, IsStatedAs}
 use Rattle.mm_improve.proofs.Ranks.{chosen-zero, chosen-suc}
 use Rattle.mm_improve.proofs.Translating.{goals}
 use Rattle.mm_improve.proofs.Linking.{same_uses, use_match, use_items, seen, order, order_is, key_here}
@@ -283,15 +283,3 @@ module _ (c : Terms) (are_plain : (id : ℕ) → Among id (plain_assertions c) �
       limits : (o : Option items.Chosen) → on (chosen_by c.bytes) (items.limited r o) ≡ ranks.limited r (on (chosen_by c.bytes) o)
       limits None = refl
       limits (Some x) = cut (leb x.rank r) x
-
-among_all : {X : Type 0} (P : X → Type 0) (xs : List X) → All P xs → (x : X) → Among x xs → P x
-among_all P xs h x a = go xs (recursion_from_All P xs h) a
-  where
-    go : (ys : List _) → AllByRecursion P ys → Among x ys → P x
-    go [] k a = absurd a
-    go (y ∷ ys) k (inl e) = subst P (sym e) k.0
-    go (y ∷ ys) k (inr a) = go ys k.1 a
-
-pub answers_agree : AnswersAgree
-answers_agree c p s code t plain short o h =
-    answered c (among_all (IsPlainAssertion c.bytes) (plain_assertions c) p) (among_all (IsStatedAs c.bytes) (active_at c.bytes c.at) s) code t (plain, short) o h

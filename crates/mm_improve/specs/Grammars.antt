@@ -1,7 +1,6 @@
 -- The grammar of a theorem: its active hypotheses and the plain assertions before it, as what is searched for.
-use Rattle.std.specs.Prelude.{ℕ, ◌==◌, List, [], ◌∷◌, ◌++◌, Option, None, Some, map, slice_index_or, suc, cond, if◌then◌else◌, ◌≡◌, ◌≤◌, ◌<◌, false, length, All}
-use Rattle.std.specs.List.{AllByRecursion}
-use Rattle.mm_scope.specs.Contents.{stated_at, active_at, distinct_at}
+use Rattle.std.specs.Prelude.{ℕ, ◌==◌, List, [], ◌∷◌, ◌++◌, Option, None, Some, map, slice_index_or, suc, cond, if◌then◌else◌, ◌≡◌, ◌≤◌, ◌<◌, false, length}
+use Rattle.mm_scope.specs.Contents.{labels_of, stated_at, active_at, distinct_at}
 use Rattle.mm_subst.specs.declared.symbol.WSym.{WSym}
 use Rattle.mm_subst.specs.declared.symbol.WSym.TheVariants.{Const, Var, Work}
 use Rattle.mm_subst.specs.Statements.{statement_of}
@@ -105,32 +104,7 @@ use_by bytes u = record { id = u.0; sigma = sigma_of bytes u.0 u.1 }
 abbrev pub chosen_by : List ℕ → Chosen → ranks.Chosen
 chosen_by bytes x = record { rank = x.rank; use_ = record { id = x.id; sigma = if x.rank == 0 then [] else sigma_of bytes x.id x.parts } }
 
--- a string for each typecode and variable
-abbrev pub typed : List WSym → List ℕ → List (List WSym)
-typed [] ns = []
-typed (c ∷ cs) [] = []
-typed (c ∷ cs) (n ∷ ns) = (c ∷ Var n ∷ []) ∷ typed cs ns
-
--- What holds of a plain assertion of a database: its conclusion is a constant and a string without work variables, which
--- has each of its variables; they differ; its hypotheses are a constant and a variable each; and the variables of the
--- distinct pairs are among them.
-pub record IsPlainAssertion (bytes : List ℕ) (id : ℕ) : Type 0 where
-  pub code : ℕ
-  pub text : List WSym
-  pub statement : statement_of bytes id ≡ Const code ∷ text
-  pub plain : has_work text ≡ false
-  pub own : (i : ℕ) → i < length (variables_for bytes id) → place (variables_for bytes id) (slice_index_or (variables_for bytes id) i 0) ≡ Some i
-  pub concluded : (n i : ℕ) → place (variables_for bytes id) n ≡ Some i → (j : ℕ) × (place (seen_in (variables_for bytes id) [] text) n ≡ Some j)
-  pub hypotheses : premises_of bytes id ≡ typed (codes_for bytes id) (variables_for bytes id)
-  pub constants : AllByRecursion (λ c. (m : ℕ) × (c ≡ Const m)) (codes_for bytes id)
-  pub as_many : length (codes_for bytes id) ≡ length (variables_for bytes id)
-  pub pairs : AllByRecursion (λ p. ((i : ℕ) × (place (variables_for bytes id) p.0 ≡ Some i)) × ((i : ℕ) × (place (variables_for bytes id) p.1 ≡ Some i))) (stated_at bytes id).pairs
-
--- a statement that is not empty
-abbrev pub IsStatedAs : List ℕ → ℕ → Type 0
-IsStatedAs bytes id = (code : WSym) × (text : List WSym) × (statement_of bytes id ≡ code ∷ text)
-
 -- The chosen proof by items is the chosen proof by unifiers.
-abbrev pub AnswersAgree : Type 0
-AnswersAgree = (c : Terms) → All (IsPlainAssertion c.bytes) (plain_assertions c) → All (IsStatedAs c.bytes) (active_at c.bytes c.at) → (code : WSym) (t : List WSym) → has_work (code ∷ t) ≡ false → length (code ∷ t) ≤ most_symbols →
+abbrev pub AnswersAgree : List ℕ → Type 0
+AnswersAgree bytes = (c : Terms) → c.bytes ≡ bytes → c.at < length (labels_of bytes) → (code : WSym) (t : List WSym) → has_work (code ∷ t) ≡ false → length (code ∷ t) ≤ most_symbols →
     (o : Option Chosen) → IsAnswer (grammar_of c) (code, t) o → ranks.IsAnswer c (code ∷ t) (on (chosen_by c.bytes) o)

@@ -1,19 +1,26 @@
 //! What holds of chosen proofs.
 
-ghost use Rattle.std.specs.Prelude.{◌<◌, ℕ, length, All};
-ghost use Rattle.mm_scope.specs.Contents.{labels_of, active_at};
-ghost use Rattle.mm_improve.specs.Grammars.{AnswersAgree, IsStatedAs};
+ghost use Rattle.mm_improve.specs.Grammars.{AnswersAgree};
+ghost use Rattle.mm_improve.specs.Assertions.{Terms};
+ghost use Rattle.mm_improve.specs.Proving.{RanksAreLimited, TreesUnfold};
 
-use mm_plain::statements_are_formed;
+use mm_scope::mandatory_variables_differ;
 
 /// What is chosen by the items of conclusions is what is chosen by unifiers.
-pub fn answers_agree()
-    ensures { AnswersAgree }
-{}
-
-/// The active hypotheses of a statement are strings with a first symbol.
-pub fn active_hypotheses_are_stated(bytes: &[u8])
-    ensures { (at : ℕ) → at < length (labels_of bytes.now) → All (IsStatedAs bytes.now) (active_at bytes.now at) }
+pub fn answers_agree(bytes: &[u8])
+    ensures { AnswersAgree bytes.now }
 {
-    statements_are_formed(bytes);
+    mandatory_variables_differ(bytes);
 }
+
+/// No rank is greater than the limit up to which a goal's chosen proof is asked for.
+pub fn ranks_are_limited(bytes: &[u8])
+    ensures { RanksAreLimited bytes.now }
+{
+    mandatory_variables_differ(bytes);
+}
+
+/// The tree of a chosen proof is a step over the trees of the chosen proofs of its parts.
+pub fn trees_unfold()
+    ensures { (c : Terms) → TreesUnfold c }
+{}

@@ -3,6 +3,7 @@
 
 mod conclusion;
 mod database;
+mod fault;
 mod filling;
 mod fitting;
 mod grammar;
@@ -12,7 +13,8 @@ mod search;
 mod table;
 
 pub use database::{Search, rules};
+pub use fault::ImproveFault;
 pub use filling::{chart, chosen_proof};
 pub use grammar::{Hypothesis, Item, Pattern, Rules};
-pub use laws::{active_hypotheses_are_stated, answers_agree};
+pub use laws::{answers_agree, ranks_are_limited, trees_unfold};
 pub use table::{Entry, Part, Rows};

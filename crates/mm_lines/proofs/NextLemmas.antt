@@ -59,11 +59,12 @@ module _ {S : Type 0} (src : SourceOf S) (begun chunk line : List ℕ) (taken : 
           kept_is = is ∙ (ap (λ (xs : List ℕ). kept (line_of true xs)) m.moved.2 ∙ kept_held true raw);
         };
         end = λ o e. cc;
+        unspent = λ o e. cc;
       }
 
   -- a last line without an LF
-  pub reads_last : (c b : List ℕ) (t : ℕ) (now : S) (found : List ℕ) → IsFree begun → Moves src chunk begun taken was false c b t now → (IsTrue (src.tells now) → src.left now ≡ []) → b ≢ [] → found ≡ kept (line_of false b) → Reads src (state_of begun chunk line taken false) was (Ok Line) (state_of [] c found t true) now
-  reads_last c b t now found free m end some is =
+  pub reads_last : (c b : List ℕ) (t : ℕ) (now : S) (found : List ℕ) → IsFree begun → Moves src chunk begun taken was false c b t now → (IsTrue (src.tells now) → src.left now ≡ []) → t < 4294967296 → b ≢ [] → found ≡ kept (line_of false b) → Reads src (state_of begun chunk line taken false) was (Ok Line) (state_of [] c found t true) now
+  reads_last c b t now found free m end less some is =
       let raw = begun ++ (chunk ++ m.bytes) in
       let free_raw : IsFree raw = free_append begun (chunk ++ m.bytes) free m.moved.0 in
       let some_raw : raw ≢ [] = λ e. some (m.moved.2 ∙ ap held e) in
@@ -81,11 +82,12 @@ module _ {S : Type 0} (src : SourceOf S) (begun chunk line : List ℕ) (taken : 
           kept_is = is ∙ (ap (λ (xs : List ℕ). kept (line_of false xs)) m.moved.2 ∙ kept_held false raw);
         };
         end = λ o e. end;
+        unspent = λ o e. less;
       }
 
   -- the end of the input
-  pub reads_end : (c b : List ℕ) (t : ℕ) (now : S) → Moves src chunk begun taken was false c b t now → (IsTrue (src.tells now) → src.left now ≡ []) → b ≡ [] → Reads src (state_of begun chunk line taken false) was (Ok End) (state_of b c line t true) now
-  reads_end c b t now m end none = record {
+  pub reads_end : (c b : List ℕ) (t : ℕ) (now : S) → Moves src chunk begun taken was false c b t now → (IsTrue (src.tells now) → src.left now ≡ []) → t < 4294967296 → b ≡ [] → Reads src (state_of begun chunk line taken false) was (Ok End) (state_of b c line t true) now
+  reads_end c b t now m end less none = record {
     bytes = m.bytes;
     given = m.given;
     count = m.count;
@@ -96,6 +98,7 @@ module _ {S : Type 0} (src : SourceOf S) (begun chunk line : List ℕ) (taken : 
       ended = refl;
     };
     end = λ o e. end;
+    unspent = λ o e. less;
   }
 
   -- no line has ended
@@ -107,9 +110,9 @@ module _ {S : Type 0} (src : SourceOf S) (begun chunk line : List ℕ) (taken : 
     open_still = refl;
   }
 
-  pub reads_none : (c b : List ℕ) (t : ℕ) (now : S) (e : Stopped) → IsFree begun → Moves src chunk begun taken was false c b t now → (e ≡ Spent → t ≡ 4294967296) → Reads src (state_of begun chunk line taken false) was (Err e) (state_of b c line t false) now
-  reads_none c b t now Failed free m spent = record { bytes = m.bytes; given = m.given; count = m.count; finds = holds_line c b t now free m; end = λ o e. cc }
-  reads_none c b t now Spent free m spent = record { bytes = m.bytes; given = m.given; count = m.count; finds = (holds_line c b t now free m, spent refl); end = λ o e. cc }
+  pub reads_none : (c b : List ℕ) (t : ℕ) (now : S) (e : Stopped) → IsFree begun → Moves src chunk begun taken was false c b t now → (e ≡ Spent → t ≡ 4294967296) → (e ≡ Failed → t < 4294967296) → Reads src (state_of begun chunk line taken false) was (Err e) (state_of b c line t false) now
+  reads_none c b t now Failed free m spent failed = record { bytes = m.bytes; given = m.given; count = m.count; finds = (holds_line c b t now free m, failed refl); end = λ o e. cc; unspent = λ o e. cc }
+  reads_none c b t now Spent free m spent failed = record { bytes = m.bytes; given = m.given; count = m.count; finds = (holds_line c b t now free m, spent refl); end = λ o e. cc; unspent = λ o e. cc }
 
   -- the input has ended before
   pub reads_over : begun ++ chunk ≡ [] → Reads src (state_of begun chunk line taken true) was (Ok End) (state_of begun chunk line taken true) was
@@ -119,6 +122,7 @@ module _ {S : Type 0} (src : SourceOf S) (begun chunk line : List ℕ) (taken : 
     count = omega arith;
     finds = record { none = append_nil (begun ++ chunk) ∙ none; ahead = none; line = refl; ended = refl };
     end = λ o e. cc;
+    unspent = λ o e. cc;
   }
 
   -- the same for a state as it stands in the code
@@ -140,21 +144,21 @@ module _ {S : Type 0} (src : SourceOf S) (begun chunk line : List ℕ) (taken : 
         (subst (λ (xs : List ℕ). Reads src (state_of begun chunk line taken false) was (Ok Line) (state_of xs c found t false) now) (sym anew)
         (reads_line c b t now found free (subst (λ (x : Bool). Moves src chunk begun taken was x c b t now) lf_is m) line_is))
 
-    pub finds_last : (lf : Bool) (b' found : List ℕ) → Moves src chunk begun taken was lf c b t now → lf ≡ false → (IsTrue (src.tells now) → src.left now ≡ []) → b ≢ [] → found ≡ kept (line_of false b) → b' ≡ [] → Reads src old was (Ok Line) (state_of b' c found t true) now
-    finds_last lf b' found m lf_is end some line_is anew =
+    pub finds_last : (lf : Bool) (b' found : List ℕ) → Moves src chunk begun taken was lf c b t now → lf ≡ false → (IsTrue (src.tells now) → src.left now ≡ []) → t < 4294967296 → b ≢ [] → found ≡ kept (line_of false b) → b' ≡ [] → Reads src old was (Ok Line) (state_of b' c found t true) now
+    finds_last lf b' found m lf_is end less some line_is anew =
         as_it_stands old ended is not_ended (λ o e. Reads src o was (Ok Line) (state_of b' c found t true) now)
         (subst (λ (xs : List ℕ). Reads src (state_of begun chunk line taken false) was (Ok Line) (state_of xs c found t true) now) (sym anew)
-        (reads_last c b t now found free (subst (λ (x : Bool). Moves src chunk begun taken was x c b t now) lf_is m) end some line_is))
+        (reads_last c b t now found free (subst (λ (x : Bool). Moves src chunk begun taken was x c b t now) lf_is m) end less some line_is))
 
-    pub finds_end : (lf : Bool) → Moves src chunk begun taken was lf c b t now → lf ≡ false → (IsTrue (src.tells now) → src.left now ≡ []) → b ≡ [] → Reads src old was (Ok End) (state_of b c line t true) now
-    finds_end lf m lf_is end empty =
+    pub finds_end : (lf : Bool) → Moves src chunk begun taken was lf c b t now → lf ≡ false → (IsTrue (src.tells now) → src.left now ≡ []) → t < 4294967296 → b ≡ [] → Reads src old was (Ok End) (state_of b c line t true) now
+    finds_end lf m lf_is end less empty =
         as_it_stands old ended is not_ended (λ o e. Reads src o was (Ok End) (state_of b c line t true) now)
-        (reads_end c b t now (subst (λ (x : Bool). Moves src chunk begun taken was x c b t now) lf_is m) end empty)
+        (reads_end c b t now (subst (λ (x : Bool). Moves src chunk begun taken was x c b t now) lf_is m) end less empty)
 
-    pub finds_none : (e : Stopped) → Moves src chunk begun taken was false c b t now → (e ≡ Spent → t ≡ 4294967296) → Reads src old was (Err e) (state_of b c line t ended) now
-    finds_none e m spent =
+    pub finds_none : (e : Stopped) → Moves src chunk begun taken was false c b t now → (e ≡ Spent → t ≡ 4294967296) → (e ≡ Failed → t < 4294967296) → Reads src old was (Err e) (state_of b c line t ended) now
+    finds_none e m spent failed =
         as_it_stands old ended is not_ended (λ o x. Reads src o was (Err e) (state_of b c line t x) now)
-        (reads_none c b t now e free m spent)
+        (reads_none c b t now e free m spent failed)
 
     -- what is held of the line has no LF
     pub sound_held : (lf : Bool) → Moves src chunk begun taken was lf c b t now → lf ≡ false → t ≤ 4294967296 → IsSound b c t ended
@@ -223,5 +227,5 @@ module _ {S : Type 0} (src : SourceOf S) (old : ReaderState) (was : S) (new : Re
         ap lines_of (all_taken (Ok End) r goes_on told ∙ (ap (λ (xs : List ℕ). xs ++ left) r.finds.none ∙ r.end goes_on r.finds.ended told)) ∙ lines_none,
         ap lines_of (nothing_more (λ e. r.finds.ahead) r.finds.ended) ∙ lines_none,
       )
-  lines_follow (Err Failed) r goes_on told = held_follow (Err Failed) r goes_on told r.finds
+  lines_follow (Err Failed) r goes_on told = held_follow (Err Failed) r goes_on told r.finds.0
   lines_follow (Err Spent) r goes_on told = held_follow (Err Spent) r goes_on told r.finds.0

@@ -7,6 +7,7 @@ use Rattle.mm_lines.specs.declared.next.Next.{Next}
 use Rattle.mm_lines.specs.declared.next.Next.TheVariants.{Line, End}
 use Rattle.mm_lines.specs.declared.next.Stopped.{Stopped}
 use Rattle.mm_lines.specs.declared.next.Stopped.TheVariants.{Failed, Spent}
+use Rattle.mm_lines.specs.Limits.{most_taken}
 use Rattle.mm_lines.specs.Lines.{lines_of}
 use Rattle.mm_lines.specs.Parts.{is_lf, IsFree}
 use Rattle.mm_lines.specs.State.{ReaderState}
@@ -31,6 +32,7 @@ module _ {S : Type 0} (src : SourceOf S) (begun : S) where
     are_lines = λ more e. refl;
     last = λ e. refl;
     end = λ e. let never : true ≡ false = sym e in cc;
+    unspent = λ e. let never : true ≡ false = sym e in cc;
     few = omega arith;
   }
 
@@ -55,6 +57,7 @@ module _ {S : Type 0} (src : SourceOf S) (begun : S) where
               ∙ sym (append_assoc lines (f.line ∷ []) (lines_of more))));
           last = f.last;
           end = r.end still;
+          unspent = r.unspent still;
           few =
               let one : length (lines ++ f.line ∷ []) ≡ length lines + 1 = length-append lines (f.line ∷ []) in
               let whole : length (old.ahead ++ r.bytes) ≡ length (f.used ++ new.ahead) = ap length f.whole in
@@ -66,8 +69,8 @@ module _ {S : Type 0} (src : SourceOf S) (begun : S) where
         not_over false e over = e
 
     -- the end
-    pub run_ends : (r : Reads src old was (Ok End) new now) → (IsTrue (is_silent old) → now ≡ was) → HasRead src begun (taken ++ r.bytes) used lines new now
-    run_ends r silent =
+    pub run_ends : (r : Reads src old was (Ok End) new now) → AnswersEnd old (Ok End) new → (IsTrue (is_silent old) → now ≡ was) → HasRead src begun (taken ++ r.bytes) used lines new now
+    run_ends r over silent =
         let all : taken ++ r.bytes ≡ used ++ [] = taken_then r.bytes ∙ ap (λ (xs : List ℕ). used ++ xs) r.finds.none in
         record {
           given = gives_then src.tells src.left begun was now taken r.bytes run.given r.given;
@@ -76,6 +79,7 @@ module _ {S : Type 0} (src : SourceOf S) (begun : S) where
           are_lines = λ more e. run.are_lines more (λ o. e r.finds.ended);
           last = λ e. r.finds.ahead;
           end = λ e told. left_none old.ended refl told;
+          unspent = λ e. less old.ended refl;
           few = let none : length new.ahead ≡ 0 = ap length r.finds.ahead in omega (arith, none, run.few, r.count);
         }
       where
@@ -84,6 +88,10 @@ module _ {S : Type 0} (src : SourceOf S) (begun : S) where
             let asked_none = silent (subst (λ (b : Bool). IsTrue (b || (list_any is_lf old.ahead || nat_le 4294967296 old.taken))) (sym e) refl) in
             ap src.left asked_none ∙ run.end e (subst (λ (s : S). IsTrue (src.tells s)) asked_none told)
         left_none false e told = r.end e r.finds.ended told
+
+        less : (b : Bool) → old.ended ≡ b → new.taken < most_taken
+        less true e = let same = ap (λ (s : ReaderState). s.taken) (over e).1 in omega (arith, same, run.unspent e)
+        less false e = r.unspent e r.finds.ended
 
   module _ (taken used : List ℕ) (lines : List (List ℕ)) (reader : ReaderState) (now : S) (run : HasRead src begun taken used lines reader now) where
     -- the lines are those of all that was used
@@ -126,7 +134,7 @@ module _ {S : Type 0} (src : SourceOf S) (begun : S) where
 
     -- no line more
     pub run_stops : (e : Stopped) (r : Reads src old was (Err e) new now) → HasStopped src begun (taken ++ r.bytes) used lines new now
-    run_stops Failed r = stops_with (Err Failed) r r.finds.free
+    run_stops Failed r = stops_with (Err Failed) r r.finds.0.free
     run_stops Spent r = stops_with (Err Spent) r r.finds.0.free
 
 -- each line takes the reader nearer to its end

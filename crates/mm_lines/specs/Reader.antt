@@ -56,7 +56,7 @@ pub record HasEnded (bytes : List ℕ) (old new : ReaderState) : Type 0 where
 abbrev pub Finds : List ℕ → ReaderState → Result Next Stopped → ReaderState → Type 0
 Finds bytes old (Ok Line) new = TakesLine bytes new
 Finds bytes old (Ok End) new = HasEnded bytes old new
-Finds bytes old (Err Failed) new = HoldsLine bytes old new
+Finds bytes old (Err Failed) new = HoldsLine bytes old new × (new.taken < most_taken)
 Finds bytes old (Err Spent) new = HoldsLine bytes old new × (new.taken ≡ most_taken)
 
 -- Bytes were taken from the source, and of those at hand and these this was found.
@@ -67,6 +67,8 @@ pub record Reads {S : Type 0} (src : SourceOf S) (old : ReaderState) (was : S) (
   pub finds : Finds (old.ahead ++ bytes) old result new
   -- the source has ended where the reader says so first
   pub end : old.ended ≡ false → new.ended ≡ true → IsTrue (src.tells now) → src.left now ≡ []
+  -- it is asked once more for that, which is done only where more may be taken
+  pub unspent : old.ended ≡ false → new.ended ≡ true → new.taken < most_taken
 
 -- The lines before were the one that was found and the lines after. Where none was found, they are the same, as far as they are kept.
 abbrev pub LinesFollow : Result Next Stopped → List (List ℕ) → List ℕ → List (List ℕ) → Type 0

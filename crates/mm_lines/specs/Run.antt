@@ -1,7 +1,8 @@
 -- What a line reader has read since it was made.
-use Rattle.std.specs.Prelude.{◌≡◌, ◌+◌, ◌≤◌, ℕ, true, IsTrue, List, [], ◌++◌, length}
+use Rattle.std.specs.Prelude.{◌≡◌, ◌+◌, ◌<◌, ◌≤◌, ℕ, true, IsTrue, List, [], ◌++◌, length}
 use Rattle.mm_base.specs.declared.source.Source.{Ghosts as SourceOf}
 use Rattle.mm_base.specs.Source.{Gives}
+use Rattle.mm_lines.specs.Limits.{most_taken}
 use Rattle.mm_lines.specs.Lines.{lines_of}
 use Rattle.mm_lines.specs.Parts.{IsFree}
 use Rattle.mm_lines.specs.State.{ReaderState}
@@ -15,6 +16,7 @@ pub record HasRead {S : Type 0} (src : SourceOf S) (begun : S) (taken used : Lis
   pub are_lines : (more : List ℕ) → (reader.ended ≡ true → more ≡ []) → lines_of (used ++ more) ≡ lines ++ lines_of more
   pub last : reader.ended ≡ true → reader.ahead ≡ []
   pub end : reader.ended ≡ true → IsTrue (src.tells now) → src.left now ≡ []
+  pub unspent : reader.ended ≡ true → reader.taken < most_taken
   pub few : length lines + length reader.ahead ≤ reader.taken
 
 -- So were these bytes taken and used up by these lines, where no line more was found: what was taken beyond them has no LF.

@@ -1,4 +1,4 @@
-ghost use Rattle.std.specs.Prelude.{◌≡◌, ◌≤◌, ◌||◌, Ok, Err, true, false, [], IfOk, IsTrue, length, nat_le};
+ghost use Rattle.std.specs.Prelude.{◌≡◌, ◌<◌, ◌≤◌, ◌||◌, Ok, Err, true, false, [], IfOk, IsTrue, length, nat_le};
 ghost use Rattle.std.specs.List.{list_any};
 ghost use Rattle.mm_base.specs.Outside.{CountsFaults};
 ghost use Rattle.mm_lines.specs.Limits.{chunk_size, most_taken};
@@ -104,6 +104,8 @@ fn read_line<S: Source>(
     ensures moves { Moves ⟦<S as Source>⟧ chunk.old begun.old taken.old source.old (found_lf result) chunk.new begun.new taken.new source.new }
     ensures end { result ≡ Ok false → IsTrue (S.tells source.new) → S.left source.new ≡ [] }
     ensures spent { result ≡ Err Stopped.Spent → taken.new ≡ most_taken }
+    ensures failed { result ≡ Err Stopped.Failed → taken.new < most_taken }
+    ensures unspent { result ≡ Ok false → taken.new < most_taken }
     ensures silent { IsTrue (list_any is_lf chunk.old || nat_le most_taken taken.old) → source.new ≡ source.old }
     ensures most { taken.new ≤ most_taken }
     ensures few { length chunk.new ≤ chunk_size }

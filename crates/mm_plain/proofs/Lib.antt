@@ -9,7 +9,7 @@ pub mod Owned
 pub mod Keys
 pub mod Fine
 mod Begun
-mod Reading
+pub mod Reading
 pub mod Forms
 mod Places
 mod Labelling

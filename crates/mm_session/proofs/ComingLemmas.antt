@@ -92,7 +92,7 @@ module _ {S : Type 0} (src : SourceOf S) (c : Commands) (input : S) where
     line_next (Ok End) r over silent most few = λ words begun met came. record {
       taken = came.taken ++ r.bytes;
       used = came.used;
-      read = run_ends src begun came.taken came.used came.lines c.reader input came.read reader now r silent;
+      read = run_ends src begun came.taken came.used came.lines c.reader input came.read reader now r over silent;
       all = all_words words came.of_words came.within;
       over = r.finds.ended;
     }
@@ -103,6 +103,7 @@ module _ {S : Type 0} (src : SourceOf S) (c : Commands) (input : S) where
       told = r.given.told;
       all = all_words words came.of_words came.within;
       spent = λ e. let never : (let x : Stopped = Failed in x) ≡ Spent = e in cc;
+      failed = λ e. let stops = run_stops src begun came.taken came.used came.lines c.reader input came.read reader now Failed r in let less = r.finds.1 in omega (arith, stops.count, less);
     }
     line_next (Err Spent) r over silent most few = λ words begun met came. record {
       taken = came.taken ++ r.bytes;
@@ -111,4 +112,5 @@ module _ {S : Type 0} (src : SourceOf S) (c : Commands) (input : S) where
       told = r.given.told;
       all = all_words words came.of_words came.within;
       spent = λ e. let stops = run_stops src begun came.taken came.used came.lines c.reader input came.read reader now Spent r in sym stops.count ∙ r.finds.1;
+      failed = λ e. let never : (let x : Stopped = Spent in x) ≡ Failed = e in cc;
     }

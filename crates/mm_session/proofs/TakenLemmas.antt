@@ -5,7 +5,7 @@ use Rattle.std.proofs.lemmas.List.{length-append}
 use Rattle.mm_base.specs.declared.source.Source.{Ghosts as SourceOf}
 use Rattle.mm_base.specs.Source.{Gives}
 use Rattle.mm_lines.specs.declared.next.Stopped.{Stopped}
-use Rattle.mm_lines.specs.declared.next.Stopped.TheVariants.{Spent}
+use Rattle.mm_lines.specs.declared.next.Stopped.TheVariants.{Failed, Spent}
 use Rattle.mm_lines.specs.Lines.{lines_of}
 use Rattle.mm_lines.specs.Parts.{IsFree}
 use Rattle.mm_lines.specs.Reader.{all_of}
@@ -54,6 +54,15 @@ not_both b f t = let never : true ≡ false = sym t ∙ f in absurd (cc)
 or_first : (a b : Bool) → a ≡ true → (a || b) ≡ true
 or_first true b e = refl
 or_first false b e = let never : false ≡ true = e in absurd (cc)
+
+or_false : (a b : Bool) → a ≡ false → (a || b) ≡ true → b ≡ true
+or_false false b f e = e
+or_false true b f e = let never : true ≡ false = f in absurd (cc)
+
+or_third : (a b c : Bool) → (a || b) ≡ true → (a || (b || c)) ≡ true
+or_third true b c e = refl
+or_third false true c e = refl
+or_third false false c e = let never : false ≡ true = e in absurd (cc)
 
 module _ {S : Type 0} (src : SourceOf S) (words : List (List ℕ)) (was : S) (met : List (List ℕ)) (c : Commands) (now : S) (came : Came src words was met c now) where
   found_lines : lines_of came.used ≡ came.lines
@@ -119,6 +128,7 @@ module _ {S : Type 0} (src : SourceOf S) (words : List (List ℕ)) (was : S) (me
     ];
     last_word = λ e le. none_taken (none_yet (omega (arith, le, ran e)));
     spent = λ e. not_both (wants_more status exited) no_more (at_seven e);
+    unspent = λ e. not_both (wants_more status exited) no_more (or_third (has_run_out status exited) (status == 3) (status == 7) e);
   }
 
   -- so many commands were taken, those that have come among them
@@ -163,6 +173,7 @@ module _ {S : Type 0} (src : SourceOf S) (words : List (List ℕ)) (was : S) (me
           last_line = λ e. not_both (ends_by_command status exited) not_by e;
           last_word = λ e. not_both (ends_by_command status exited) not_by e;
           spent = λ e. absurd (let three = (at_seven e).1 in omega (arith, e, three));
+          unspent = λ e. let whole : length end.taken ≡ length (end.used ++ new.reader.ahead) = ap length end.read.whole in omega (arith, whole, end.read.count, end.read.unspent end.over);
         }
       where
         ended_all : (b : Bool) → b ≡ true → new.reader.ahead ≡ [] → new.reader.ahead ++ (if b then [] else src.left after) ≡ []
@@ -170,9 +181,9 @@ module _ {S : Type 0} (src : SourceOf S) (words : List (List ℕ)) (was : S) (me
         ended_all false e nothing = let never : false ≡ true = e in absurd (cc)
 
     -- the input has failed, or too much of it was taken
-    pub takes_stopped : (why : Stopped) (stop : ComesToStop src words was came.lines why c now new after) (run status : ℕ) (exited : Bool) → run ≡ length met → has_run_out status exited ≡ false → ends_by_command status exited ≡ false → (status ≡ 7 → why ≡ Spent) →
+    pub takes_stopped : (why : Stopped) (stop : ComesToStop src words was came.lines why c now new after) (run status : ℕ) (exited : Bool) → run ≡ length met → has_run_out status exited ≡ false → ends_by_command status exited ≡ false → (status ≡ 7 → why ≡ Spent) → ((status == 3) ≡ true → why ≡ Failed) →
         Takes src words was after (met ++ to_come words c (src.left now)) stop.used run status exited
-    takes_stopped why stop run status exited is not_out not_by at_seven =
+    takes_stopped why stop run status exited is not_out not_by at_seven at_three =
         let stops = stop.stops in
         let found : lines_of stop.used ≡ came.lines = stops.lines_are in
         let count : length (lines_of stop.used) ≡ length came.lines = ap length found in
@@ -190,6 +201,7 @@ module _ {S : Type 0} (src : SourceOf S) (words : List (List ℕ)) (was : S) (me
           last_line = λ e. not_both (ends_by_command status exited) not_by e;
           last_word = λ e. not_both (ends_by_command status exited) not_by e;
           spent = λ e. ap length (sym stops.whole) ∙ stop.spent (at_seven e);
+          unspent = λ e. let whole : length stop.taken ≡ length (stop.used ++ stops.rest) = ap length stops.whole in omega (arith, whole, stop.failed (at_three (or_false (has_run_out status exited) (status == 3) not_out e)));
         }
 
 module _ {S : Type 0} (src : SourceOf S) (words : List (List ℕ)) (was : S) where
@@ -225,4 +237,5 @@ module _ {S : Type 0} (src : SourceOf S) (words : List (List ℕ)) (was : S) whe
     last_line = λ e lt. absurd (omega (arith, lt, is));
     last_word = λ e le. refl;
     spent = λ e. absurd (omega (arith, e));
+    unspent = λ e. let never : false ≡ true = e in absurd (cc);
   }

@@ -65,7 +65,7 @@ module _ {F S K R : Type 0} (fs : FilesOf F) (src : SourceOf S) (sk : SinkOf K) 
           commands = st.met ++ later;
           used = stop.used;
           runs = l.runs;
-          takes = takes_stopped src words was st.met c input st.came new input' Failed stop run.lines 3 _ st.lines refl refl (λ e. absurd (omega (arith, e)));
+          takes = takes_stopped src words was st.met c input st.came new input' Failed stop run.lines 3 _ st.lines refl refl (λ e. absurd (omega (arith, e))) (λ e. refl);
         };
         events = l.events;
         said_is = l.said_is;
@@ -84,7 +84,7 @@ module _ {F S K R : Type 0} (fs : FilesOf F) (src : SourceOf S) (sk : SinkOf K) 
           commands = st.met ++ later;
           used = stop.used;
           runs = l.runs;
-          takes = takes_stopped src words was st.met c input st.came new input' Spent stop run.lines 7 _ st.lines refl refl (λ e. refl);
+          takes = takes_stopped src words was st.met c input st.came new input' Spent stop run.lines 7 _ st.lines refl refl (λ e. refl) (λ e. let never : false ≡ true = e in absurd (cc));
         };
         events = l.events;
         said_is = l.said_is;

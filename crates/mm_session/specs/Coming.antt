@@ -4,7 +4,7 @@ use Rattle.mm_base.specs.declared.source.Source.{Ghosts as SourceOf}
 use Rattle.mm_lines.specs.declared.next.Next.{Next}
 use Rattle.mm_lines.specs.declared.next.Next.TheVariants.{Line, End}
 use Rattle.mm_lines.specs.declared.next.Stopped.{Stopped}
-use Rattle.mm_lines.specs.declared.next.Stopped.TheVariants.{Spent}
+use Rattle.mm_lines.specs.declared.next.Stopped.TheVariants.{Failed, Spent}
 use Rattle.mm_lines.specs.Limits.{chunk_size, most_taken}
 use Rattle.mm_lines.specs.Lines.{lines_of}
 use Rattle.mm_lines.specs.Reader.{all_of}
@@ -73,6 +73,7 @@ pub record ComesToStop {S : Type 0} (src : SourceOf S) (words : List (List ℕ))
   pub told : IsTrue (src.tells now) → IsTrue (src.tells was)
   pub all : old.next ≡ length words
   pub spent : why ≡ Spent → length taken ≡ most_taken
+  pub failed : why ≡ Failed → length taken < most_taken
 
 -- what the next command is
 abbrev pub NextIs : {S : Type 0} (src : SourceOf S) (old : Commands) (was : S) → Result Next Stopped → Commands → S → Type 0

@@ -37,4 +37,6 @@ pub record Takes {S : Type 0} (src : SourceOf S) (words : List (List ℕ)) (was 
   pub little_more : ends_by_command status exited ≡ true → length rest ≤ chunk_size
   pub last_line : ends_by_command status exited ≡ true → length words < run → run ≡ length words + length (lines_of used)
   pub last_word : ends_by_command status exited ≡ true → run ≤ length words → used ++ rest ≡ []
+  -- too much was taken where as much was as may be, and a further read would have been needed, and nowhere else
   pub spent : status ≡ 7 → length (used ++ rest) ≡ most_taken
+  pub unspent : (has_run_out status exited || status == 3) ≡ true → length (used ++ rest) < most_taken

@@ -1,11 +1,9 @@
 -- What a valid and complete proof comes to.
-use Rattle.std.proofs.Common.{◌≡◌, ◌<◌, ℕ, Bool, true, false, List, [], ◌∷◌, map, length, Option, None, Some, Result, Ok, refl, sym, ap, ◌∙◌, arith, if◌then◌else◌}
+use Rattle.std.proofs.Common.{◌≡◌, ◌<◌, ℕ, true, List, length, Result, Ok, ap, ◌∙◌, if◌then◌else◌}
 use Rattle.mm_scope.specs.Contents.{is_read, stated_at, labels_of}
 use Rattle.mm_stated.specs.declared.statement.Kind.TheVariants.{Theorem}
 use Rattle.mm_subst.specs.Statements.{statement_of}
-use Rattle.mm_subst.specs.declared.symbol.WSym.{WSym}
 use Rattle.mm_plain.specs.Shape.{Proof}
-use Rattle.mm_plain.specs.Valid.{IsValid}
 use Rattle.mm_stack.specs.Accepting.{verdict_after, verdict_by, verdict_of, Accepts}
 use Rattle.mm_proof.specs.Decoding.{proof_of, decoded}
 use Rattle.mm_proof.specs.declared.fault.ProofFault.{ProofFault}

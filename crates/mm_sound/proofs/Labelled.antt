@@ -1,9 +1,9 @@
 -- The label tree of a valid proof.
-use Rattle.std.proofs.Common.{◌≡◌, ◌<◌, ℕ, zero, suc, Bool, true, false, nat_lt, List, [], ◌∷◌, ◌++◌, map, length, slice_get, slice_index_or, Option, None, Some, Ok, refl, sym, ap, ◌∙◌, subst, arith, if◌then◌else◌}
+use Rattle.std.proofs.Common.{◌≡◌, ◌<◌, ℕ, zero, suc, Bool, true, false, List, [], ◌∷◌, ◌++◌, map, length, slice_index_or, Option, None, Some, Ok, refl, sym, ap, ◌∙◌, subst, arith, if◌then◌else◌}
 use Rattle.std.proofs.lemmas.List.{length-map, map-append}
 use Rattle.std.proofs.lemmas.List.Concat.{flat_map-cons}
-use Rattle.std.specs.List.{flat_map, list_any, AllByRecursion as ByRecursion}
-use Rattle.mm_scope.specs.Contents.{stated_at, labels_of, find_label, active_at, distinct_at}
+use Rattle.std.specs.List.{flat_map, AllByRecursion as ByRecursion}
+use Rattle.mm_scope.specs.Contents.{stated_at, labels_of, find_label, distinct_at}
 use Rattle.mm_stated.specs.Stated.{is_hypothesis}
 use Rattle.mm_tokens.specs.Words.{is_bad_label}
 use Rattle.mm_subst.specs.Statements.{statement_of}
@@ -29,7 +29,7 @@ use Rattle.mm_proof.specs.Spelling.{steps_read}
 use Rattle.mm_proof.specs.Standing.{MayProve, normal_steps}
 use Rattle.mm_proof.specs.Steps.{untagged}
 use Rattle.mm_proof.specs.Standing as proof
-use Rattle.mm_proof.specs.Trees.{Tree, Trees, none, more, tree, trees_of, list_of, postorder, AreWhole}
+use Rattle.mm_proof.specs.Trees.{Tree, none, more, tree, trees_of, list_of, postorder, AreWhole}
 use Rattle.mm_proof.proofs.Lines.{compressed_reads}
 use Rattle.mm_proof.proofs.Reread.{normal_folds}
 use Rattle.mm_proof.proofs.Same.{list-trees}

@@ -11,3 +11,4 @@ pub mod Accepted
 pub mod NoWork
 pub mod Incomplete
 pub mod WithoutPairs
+pub mod Paired

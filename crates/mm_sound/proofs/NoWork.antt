@@ -20,7 +20,6 @@ use Rattle.mm_plain.proofs.Equations.{by_trees, steps_of-known, target_of-known}
 use Rattle.mm_plain.proofs.Kept.{kids-sound}
 use Rattle.mm_plain.proofs.Read.{source_of-known, sigma_of-known}
 use Rattle.mm_stack.specs.Running.{is_float}
-use Rattle.mm_plain.specs.Sources.{sigma_of}
 use Rattle.mm_sound.specs.Complete.{IsDone, IsComplete, IsPlain, IsPlainStep}
 use Rattle.mm_sound.proofs.Popped.{IsFloat, is_formed_float, float_varies, other_varies_by}
 use Rattle.mm_sound.proofs.Runs.{split, settled, never_unknown, premises_by, variables_by, premises_are, variables_are}

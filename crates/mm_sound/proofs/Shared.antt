@@ -1,5 +1,5 @@
 -- The machine on a complete proof that is written with back references.
-use Rattle.std.proofs.Common.{◌≡◌, ℕ, zero, suc, ◌+◌, ◌-◌, ◌<◌, Bool, true, false, cond, List, [], ◌∷◌, ◌++◌, map, length, get_or, slice_get, Option, None, Some, Result, Ok, Err, refl, sym, ap, ◌∙◌, subst, arith, append_assoc, append-nil, length-append, eqb, if◌then◌else◌}
+use Rattle.std.proofs.Common.{◌≡◌, ℕ, zero, suc, ◌+◌, ◌-◌, ◌<◌, Bool, true, false, cond, List, [], ◌∷◌, ◌++◌, map, length, Option, None, Some, Result, Ok, Err, refl, sym, ap, ◌∙◌, subst, arith, append_assoc, append-nil, length-append, eqb}
 use Rattle.std.proofs.lemmas.Bool.Decides.{nat_tests}
 use Rattle.std.proofs.lemmas.Option.{none-some}
 use Rattle.std.proofs.lemmas.List.{get_or_append_left}
@@ -11,7 +11,6 @@ use Rattle.mm_proof.specs.Encoding.{kind_of}
 use Rattle.mm_proof.specs.Spelling.{is_named, kind_for as kind_read, steps_tagged, steps_read}
 use Rattle.mm_proof.specs.Steps.{untagged}
 use Rattle.mm_proof.specs.declared.step.ProofStep.{ProofStep}
-use Rattle.mm_proof.specs.declared.step.StepKind.{StepKind}
 use Rattle.mm_proof.specs.declared.written.Step.{Step}
 use Rattle.mm_proof.specs.declared.written.Step.TheVariants.{Label, Unknown, Back}
 use Rattle.mm_proof.proofs.Same.{same_tree_from}

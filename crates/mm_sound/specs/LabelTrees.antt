@@ -1,5 +1,5 @@
 -- The label tree of a proof.
-use Rattle.std.specs.Prelude.{ℕ, suc}
+use Rattle.std.specs.Prelude.{suc}
 use Rattle.mm_plain.specs.declared.plain.Plain.{Plain}
 use Rattle.mm_plain.specs.declared.plain.Plain.TheOpen.{Plain-F}
 use Rattle.mm_plain.specs.declared.plain.Plain.TheOpen as P

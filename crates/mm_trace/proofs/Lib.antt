@@ -3,3 +3,4 @@ pub mod Ways
 pub mod Earlier
 pub mod Listing
 pub mod TraceLemmas
+pub mod Spreading

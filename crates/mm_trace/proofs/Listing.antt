@@ -34,7 +34,7 @@ same_kept p q (suc n) h =
 pub marked_are : (marks : List Bool) (test : ℕ → Bool) (n : ℕ) (ids : List ℕ) → AreMarks test n marks → ids ≡ filter (λ k. get_or marks k false) (range_with_len 0 n) → ids ≡ filter test (range_with_len 0 n)
 marked_are marks test n ids h are = are ∙ same_kept (λ k. get_or marks k false) test n h.each
 
-more_marks : (test : ℕ → Bool) (n : ℕ) (marks : List Bool) (b : Bool) → AreMarks test n marks → b ≡ test n → AreMarks test (n + 1) (marks ++ b ∷ [])
+pub more_marks : (test : ℕ → Bool) (n : ℕ) (marks : List Bool) (b : Bool) → AreMarks test n marks → b ≡ test n → AreMarks test (n + 1) (marks ++ b ∷ [])
 more_marks test n marks b h is = record {
   count = length-append marks (b ∷ []) ∙ omega (arith, h.count);
   each = λ k small. elim (cases_lt k n) [

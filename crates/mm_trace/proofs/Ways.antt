@@ -8,33 +8,33 @@ use Rattle.mm_trace.specs.Uses.{IsWay, Depends, some_below, depends_within, depe
 use Rattle.mm_trace.specs.Marks.{IsEarlier, PassesOn, Spreads}
 use Rattle.mm_trace.proofs.SegmentLemmas.{both, one_of, or_true, same_by}
 
-or_left : (a b : Bool) → a ≡ true → (a || b) ≡ true
+pub or_left : (a b : Bool) → a ≡ true → (a || b) ≡ true
 or_left true b h = refl
 or_left false b h = absurd (true≢false (sym h))
 
 -- ## Members of lists
 
 -- a member of a list that passes a test
-record Member (xs : List ℕ) (test : ℕ → Bool) : Type 0 where
+pub record Member (xs : List ℕ) (test : ℕ → Bool) : Type 0 where
   pub number : ℕ
   pub among : list_any (λ x. x == number) xs ≡ true
   pub passes : test number ≡ true
 
-some_member : (test : ℕ → Bool) (xs : List ℕ) → list_any test xs ≡ true → Member xs test
+pub some_member : (test : ℕ → Bool) (xs : List ℕ) → list_any test xs ≡ true → Member xs test
 some_member test [] h = absurd (true≢false (sym h))
 some_member test (x ∷ xs) h = elim (one_of (test x) (list_any test xs) h) [
   | inl here ↦ record { number = x; among = or_left (x == x) (list_any (λ y. y == x) xs) (eq-eqb x x refl); passes = here }
   | inr there ↦ (let m = some_member test xs there in record { number = m.number; among = or_true (x == m.number) (list_any (λ y. y == m.number) xs) m.among; passes = m.passes })
 ]
 
-member_passes : (test : ℕ → Bool) (xs : List ℕ) (m : ℕ) → list_any (λ x. x == m) xs ≡ true → test m ≡ true → list_any test xs ≡ true
+pub member_passes : (test : ℕ → Bool) (xs : List ℕ) (m : ℕ) → list_any (λ x. x == m) xs ≡ true → test m ≡ true → list_any test xs ≡ true
 member_passes test [] m h i = h
 member_passes test (x ∷ xs) m h i = elim (one_of (x == m) (list_any (λ y. y == m) xs) h) [
   | inl here ↦ or_left (test x) (list_any test xs) (ap test (eqb-true x m here) ∙ i)
   | inr there ↦ or_true (test x) (list_any test xs) (member_passes test xs m there i)
 ]
 
-below_passes : (n : ℕ) (test : ℕ → Bool) (m : ℕ) → m < n → test m ≡ true → some_below n test ≡ true
+pub below_passes : (n : ℕ) (test : ℕ → Bool) (m : ℕ) → m < n → test m ≡ true → some_below n test ≡ true
 below_passes n test m small is =
     let within : m < length (range_with_len 0 n) = subst (λ (k : ℕ). m < k) (sym (length-range_with_len 0 n)) small in
     let none : 0 + m ≡ m = omega arith in
@@ -44,7 +44,7 @@ below_passes n test m small is =
 -- ## Ways
 
 module _ (applies : ℕ → ℕ → Bool) where
-  preceded : (id m on : ℕ) → applies id m ≡ true → Depends applies m on → Depends applies id on
+  pub preceded : (id m on : ℕ) → applies id m ≡ true → Depends applies m on → Depends applies id on
   preceded id m on h d = record { way = m ∷ d.way; is = (h, d.is) }
 
   way_on : (id : ℕ) (way : List ℕ) (j n : ℕ) → IsWay applies id way j → applies j n ≡ true → IsWay applies id (way ++ j ∷ []) n
@@ -151,7 +151,7 @@ module _ (applies : ℕ → ℕ → Bool) (earlier : IsEarlier applies) where
     closed i n from a b (inl before) u = marked_closed i n from a b before u
     closed i n from a b (inr now) u = let c = both (get_or old j false) (applies j i) now in absurd (omega (arith, from, earlier j i c.1))
 
-  pub spread_whole : (id : ℕ) (marks : List Bool) → id < length marks → Spreads applies id 0 marks → (n : ℕ) → n < length marks → get_or marks n false ≡ depends_by applies id n
+  pub spread_whole : (id : ℕ) (marks : List Bool) → id ≤ length marks → Spreads applies id 0 marks → (n : ℕ) → n < length marks → get_or marks n false ≡ depends_by applies id n
   spread_whole id marks inside h n small = same_by (get_or marks n false) (depends_by applies id n) (λ is. depends_true id n (h.sound n small is)) back where
     reached : (m : ℕ) (way : List ℕ) → m < length marks → get_or marks m false ≡ true → IsWay applies m way n → get_or marks n false ≡ true
     reached m [] within is u = h.closed m n (omega arith) within small is u

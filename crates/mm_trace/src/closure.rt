@@ -21,7 +21,7 @@ fn mark(marks: &mut Vec<bool>, id: u32)
 }
 
 /// Marks statements.
-fn mark_all(marks: &mut Vec<bool>, ids: &[u32])
+pub(crate) fn mark_all(marks: &mut Vec<bool>, ids: &[u32])
     ensures count { length marks.new.items ≡ length marks.old.items }
     ensures each { (n : ℕ) → n < length marks.old.items → get_or marks.new.items n false ≡ (get_or marks.old.items n false || list_any (λ m. m == n) ids.now) }
 {
@@ -86,7 +86,7 @@ fn push_where(ids: &mut Vec<StmtId>, wanted: bool, id: u32) -> Result<(), AllocE
 }
 
 /// Whether a statement is marked.
-fn is_marked(marks: &[bool], id: u32) -> bool
+pub(crate) fn is_marked(marks: &[bool], id: u32) -> bool
     ensures { result ≡ get_or marks.now id false }
 {
     match marks.get(id as usize) {
@@ -157,7 +157,7 @@ pub fn users(alloc: Global, db: &Database, on: StmtId) -> Result<Vec<StmtId>, Al
 }
 
 /// Whether one of these statements is a given one, or marked.
-fn some_rests(used: &[u32], marks: &[bool], on: StmtId) -> bool
+pub(crate) fn some_rests(used: &[u32], marks: &[bool], on: StmtId) -> bool
     ensures { result ≡ list_any (λ m. m == on.0 || get_or marks.now m false) used.now }
 {
     used.iter().any(|m| *m == on.0 || is_marked(marks, *m))

@@ -66,11 +66,17 @@ impl Trace {
         Ok(Trace { used: lists })
     }
 
-    /// The assertions that a statement uses.
-    fn used(&self, id: StmtId) -> &[u32]
-        ensures { result.now ≡ slice_index_or self.now id.0 [] }
+    /// How many statements there are.
+    pub(crate) fn count(&self) -> usize
+        ensures { result ≡ length self.now }
     {
-        let place = id.0 as usize;
+        self.used.len()
+    }
+
+    /// The assertions that the statement at a place uses.
+    pub(crate) fn used_at(&self, place: usize) -> &[u32]
+        ensures { result.now ≡ slice_index_or self.now place [] }
+    {
         if place < self.used.len() {
             self.used[place].as_slice()
         } else {
@@ -82,6 +88,6 @@ impl Trace {
     pub fn uses(&self, id: StmtId, on: StmtId) -> bool
         ensures { result ≡ uses_in self.now id.0 on.0 }
     {
-        self.used(id).iter().any(|m| *m == on.0)
+        self.used_at(id.0 as usize).iter().any(|m| *m == on.0)
     }
 }

@@ -85,7 +85,7 @@ settled v turn = record { roots = roots_of v true; trail = line_of v true; draft
 roots-settled : (v : Versions) (turn next : ℕ) → IsWhole v next → roots_of (settled v turn) true ≡ roots_of v true
 roots-settled v turn next w = append-nil (take (hand_root v + 1) (roots_of v true)) ∙ take-all (hand_root v + 1) (roots_of v true) (omega (arith, length-roots v next w))
 
-line-settled : (v : Versions) (turn next : ℕ) → IsWhole v next → line_of (settled v turn) true ≡ line_of v true
+pub line-settled : (v : Versions) (turn next : ℕ) → IsWhole v next → line_of (settled v turn) true ≡ line_of v true
 line-settled v turn next w = append-nil (take (hand_length v) (line_of v true)) ∙ take-all (hand_length v) (line_of v true) (omega (arith, length-line v next w))
 
 hand-settled : (v : Versions) (turn next : ℕ) → IsWhole v next → hand_node (settled v turn) ≡ hand_node v
@@ -183,7 +183,7 @@ roots-cut : (v : Versions) (m : Mark) (next : ℕ) → IsWhole v next → v.begu
 roots-cut v m next w h = let b = w.begun_root in append-take (take (v.begun_root + 1) v.roots) v.draft_roots (v.begun_root + 1) (m.root - v.begun_root) (length-take-le (v.begun_root + 1) v.roots (omega arith))
     ∙ (let z : v.begun_root + 1 + (m.root - v.begun_root) ≡ m.root + 1 = omega arith in ap (λ (j : ℕ). take j (roots_of v true)) z)
 
-line-cut : (v : Versions) (m : Mark) (next : ℕ) → IsWhole v next → v.begun_length ≤ m.length → line_of (cut_to v m) true ≡ take m.length (line_of v true)
+pub line-cut : (v : Versions) (m : Mark) (next : ℕ) → IsWhole v next → v.begun_length ≤ m.length → line_of (cut_to v m) true ≡ take m.length (line_of v true)
 line-cut v m next w h = append-take (take v.begun_length v.trail) v.draft_bindings v.begun_length (m.length - v.begun_length) (length-take-le v.begun_length v.trail w.begun_length)
     ∙ (let z : v.begun_length + (m.length - v.begun_length) ≡ m.length = omega arith in ap (λ (j : ℕ). take j (line_of v true)) z)
 

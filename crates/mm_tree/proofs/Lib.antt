@@ -1,8 +1,11 @@
 pub mod Shapes
 pub mod Paths
+pub mod Keying
+pub mod Readings
 pub mod Kids
 pub mod Bindings
 pub mod Keeping
+pub mod Finding
 pub mod Made
 pub mod Grown
 pub mod ByIds
@@ -20,3 +23,5 @@ pub mod RowLemmas
 pub mod BegunLemmas
 pub mod FreshVariables
 pub mod Renewed
+pub mod ReplacingLemmas
+pub mod Refilled

@@ -1,13 +1,14 @@
 -- The first step of which a string gets too long under a substitution.
 use Rattle.std.proofs.Common.{◌≡◌, ℕ, ◌+◌, ◌≤◌, ◌<◌, Bool, true, false, ◌||◌, if◌then◌else◌, List, [], ◌∷◌, ◌++◌, map, take, drop, length, get_or, Option, None, Some, refl, sym, ◌∙◌, ap, subst, arith, length-append}
 use Rattle.std.specs.List.{AllByRecursion as ByRecursion, flat_map, list_any, sum_by}
-use Rattle.std.proofs.lemmas.List.{take_all, take-append-drop, get_or-map}
+use Rattle.std.proofs.lemmas.List.{take_all, take_more, take-append-drop, get_or-map, map-append}
 use Rattle.std.proofs.lemmas.List.Concat.{flat_map-append, flat_map-cons, length-flat_map}
 use Rattle.mm_subst.specs.declared.symbol.WSym.{WSym}
-use Rattle.mm_subst.specs.Statements.{statement_of}
+use Rattle.mm_subst.specs.Statements.{statement_of, symbol_of}
 use Rattle.mm_subst.specs.Substitutions.{Pairs, applied, value_of, with_values}
 use Rattle.mm_subst.specs.Symbols.{has_work}
-use Rattle.mm_subst.proofs.Replaced.{applied_more}
+use Rattle.mm_scope.specs.Contents.{stated_at}
+use Rattle.mm_subst.proofs.Replaced.{applied_more, applied-nil, applied-one, applied-append, length-applied-append}
 use Rattle.mm_plain.specs.declared.plain.Plain.{Plain}
 use Rattle.mm_plain.specs.Binding.{bound, HasWorkKeys, has_works}
 use Rattle.mm_plain.specs.Lengths.{is_long, is_long_source, is_long_step, first_long}
@@ -188,3 +189,32 @@ pub first-dead : (bytes : List ℕ) (theta : Pairs) → HasWorkKeys theta → (l
 first-dead bytes theta keys line x n dead short =
     sym (ap (λ (y : Plain). first_from (is_long_step bytes) n (steps_of y)) (bound-plain theta keys (mean x line) (dead-works line x dead))
     ∙ none-first_from (is_long_step bytes) n (steps_of (mean x line)) (first_from-none (is_long_step bytes) 1 (steps_of (mean x line)) short))
+
+-- what a statement says under a substitution, symbol by symbol
+
+abbrev pub source_size : Pairs → Pairs → List ℕ → List ℕ → ℕ
+source_size theta sigma bytes ns = length (applied theta (applied sigma (map (symbol_of bytes) ns)))
+
+source_size-append : (theta sigma : Pairs) (bytes xs ys : List ℕ) → source_size theta sigma bytes (xs ++ ys) ≡ source_size theta sigma bytes xs + source_size theta sigma bytes ys
+source_size-append theta sigma bytes xs ys =
+    ap (λ (s : List WSym). length (applied theta (applied sigma s))) (map-append (symbol_of bytes) xs ys)
+    ∙ ap (λ (s : List WSym). length (applied theta s)) (applied-append sigma (map (symbol_of bytes) xs) (map (symbol_of bytes) ys))
+    ∙ length-applied-append theta (applied sigma (map (symbol_of bytes) xs)) (applied sigma (map (symbol_of bytes) ys))
+
+pub source-more : (theta sigma : Pairs) (bytes ns : List ℕ) (i d : ℕ) (x : WSym) (v : List WSym) → i < length ns → x ≡ symbol_of bytes (get_or ns i d) → v ≡ value_of sigma x
+    → source_size theta sigma bytes (take (i + 1) ns) ≡ source_size theta sigma bytes (take i ns) + length (applied theta v)
+source-more theta sigma bytes ns i d x v h e is =
+    ap (source_size theta sigma bytes) (take_more ns i d h)
+    ∙ source_size-append theta sigma bytes (take i ns) (get_or ns i d ∷ [])
+    ∙ ap (λ (s : List WSym). source_size theta sigma bytes (take i ns) + length (applied theta s)) (applied-one sigma (symbol_of bytes (get_or ns i d)) ∙ ap (value_of sigma) (sym e) ∙ sym is)
+
+pub source-part : (theta sigma : Pairs) (bytes ns : List ℕ) (i : ℕ) → source_size theta sigma bytes (take i ns) ≤ source_size theta sigma bytes ns
+source-part theta sigma bytes ns i =
+    omega (arith, source_size-append theta sigma bytes (take i ns) (drop i ns), ap (source_size theta sigma bytes) (take-append-drop i ns))
+
+pub source-none : (theta sigma : Pairs) (bytes : List ℕ) → source_size theta sigma bytes [] ≡ 0
+source-none theta sigma bytes = ap (λ (s : List WSym). length (applied theta s)) (applied-nil sigma) ∙ ap length (applied-nil theta)
+
+pub source-whole : (theta sigma : Pairs) (bytes ns : List ℕ) (id : ℕ) → ns ≡ (stated_at bytes id).symbols → source_size theta sigma bytes ns ≡ length (applied theta (applied sigma (statement_of bytes id)))
+unfolding statement_of
+source-whole theta sigma bytes ns id is = ap (source_size theta sigma bytes) is

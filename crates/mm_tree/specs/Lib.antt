@@ -1,4 +1,6 @@
 pub mod Lines
+pub mod Keyed
+pub mod Reading
 pub mod Meanings
 pub mod View
 pub mod Falls
@@ -10,3 +12,4 @@ pub mod Bound
 pub mod Written
 pub mod Floats
 pub mod Labelled
+pub mod Replacing

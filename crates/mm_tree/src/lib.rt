@@ -10,6 +10,7 @@ mod fault;
 mod floats;
 mod fresh;
 mod graft;
+mod keyed;
 mod labelled;
 mod lengths;
 mod line;
@@ -17,6 +18,7 @@ mod node;
 mod occurring;
 mod premises;
 mod renewal;
+mod replacing;
 mod rows;
 mod sources;
 #[cfg(test)]
@@ -25,9 +27,10 @@ mod timed;
 mod tree;
 mod writing;
 
-pub use fault::{BindFault, GraftFault, WorkSpent};
+pub use fault::{BindFault, GraftFault, ReplaceFault, WorkSpent};
 pub use fresh::{fresh_from, variables_for};
 pub use labelled::OfLabelsFault;
 pub use premises::premises as hypotheses;
+pub use replacing::MOST_PREMISES;
 pub use std::alloc::AllocError as Memory;
 pub use tree::{MOST_LEVELS, MOST_STEPS, MOST_WORKS, Mark, Tree};

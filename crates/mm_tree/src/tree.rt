@@ -26,6 +26,7 @@ ghost use Rattle.mm_tree.specs.Placed.{HasRoom, IsDrawn, IsPlaced};
 ghost use Rattle.mm_tree.specs.Versions.{BeginsAlike, HasNoDrafts, IsSound, is_draft, IsAlive, KeepsMarks, KeepsOlder, KeepsUpTo, StandsAt, hand_length, hand_node, hand_root, line_of, named};
 
 use crate::fault::{BindFault, GraftFault, WorkSpent};
+use crate::keyed::Keyed;
 use crate::line::Line;
 use crate::node::{Node, put};
 use crate::occurring::occurs_in;
@@ -70,6 +71,8 @@ pub struct Tree {
     // those of the drafts
     draft_roots: Vec<Rc<Node>>,
     draft_bindings: Vec<Subst>,
+    // where the bindings have their keys
+    keyed: Keyed,
     // the settled version at which the drafts began
     begun_root: usize,
     begun_length: usize,
@@ -504,6 +507,7 @@ impl Tree {
         Line {
             settled: &self.trail[..self.begun_length],
             drafts: self.draft_bindings.as_slice(),
+            keyed: &self.keyed,
         }
     }
 
@@ -528,7 +532,7 @@ impl Tree {
     }
 
     /// The string of a step, as it is kept.
-    fn text(&self, step: u32) -> Result<Rc<Text>, AllocError>
+    pub(crate) fn text(&self, step: u32) -> Result<Rc<Text>, AllocError>
         requires { (1 ≤ step) × (step ≤ size_of self.now.proof.plain) }
         ensures now { IfOk result (λ t. text_now (line_of self.now.versions true) t.value ≡ target_of (step_at self.now.proof.plain step)) }
         ensures born { IfOk result (λ t. t.value.birth ≤ hand_length self.now.versions) }
@@ -552,7 +556,7 @@ impl Tree {
     }
 
     /// Appends a binding to those of the drafts.
-    fn add_binding(&mut self, theta: Subst) -> Result<(), AllocError>
+    pub(crate) fn add_binding(&mut self, theta: Subst) -> Result<(), AllocError>
         requires { HasWorkKeys theta }
         ensures ok { OnOk result (self.new.proof ≡ bound_in theta self.old.proof) }
         ensures err { OnErr result (self.new ≡ self.old) }
@@ -561,7 +565,24 @@ impl Tree {
     {
         let drafts = self.draft_bindings.len();
         self.trail.reserve(drafts + 1)?;
+        self.keyed.add_keys(&theta, self.begun_length + drafts)?;
         self.draft_bindings.push(theta)?;
+        Ok(())
+    }
+
+    /// Makes a tree the version in hand, as a draft.
+    pub(crate) fn push_root(&mut self, root: Rc<Node>) -> Result<(), AllocError>
+        requires born { youngest root.value ≤ hand_length self.old.versions }
+        requires few { count root.value ≤ 1000000 }
+        requires low { tall root.value ≤ 2000 }
+        ensures ok { OnOk result (self.new.proof ≡ record { plain = mean root.value (line_of self.old.versions true); next = self.old.proof.next }) }
+        ensures err { OnErr result (self.new ≡ self.old) }
+        ensures marks { KeepsMarks self.old.versions self.new.versions }
+        ensures begun { BeginsAlike self.old.versions self.new.versions }
+    {
+        let drafts = self.draft_roots.len();
+        self.roots.reserve(drafts + 1)?;
+        self.draft_roots.push(root)?;
         Ok(())
     }
 
@@ -618,18 +639,21 @@ pub(crate) fn rooted(
     trail: Vec<Subst>,
     next: u32,
 ) -> Result<Tree, AllocError>
-    requires { IsSound root.value (length trail.items) next }
+    requires sound { IsSound root.value (length trail.items) next }
+    requires keys { All HasWorkKeys trail.items }
     ensures proof { IfOk result (λ t. t.proof ≡ record { plain = mean root.value trail.items; next = next }) }
     ensures settled { IfOk result (λ t. HasNoDrafts t.versions) }
 {
     let mut roots = Vec::new(alloc);
     roots.push(root)?;
     let begun_length = trail.len();
+    let keyed = Keyed::of(alloc, trail.as_slice())?;
     Ok(Tree {
         roots,
         trail,
         draft_roots: Vec::new(alloc),
         draft_bindings: Vec::new(alloc),
+        keyed,
         begun_root: 0,
         begun_length,
         turn: 1,

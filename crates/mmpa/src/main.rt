@@ -37,7 +37,7 @@ Then the lines of the input are commands, up to EXIT or its end.
 ";
 
 /// Each command that is built, and what it does.
-const COMMANDS: [&str; 27] = [
+const COMMANDS: [&str; 28] = [
     "READ FILE                        reads a database",
     "VERIFY PROOF PATTERN             verifies the proofs of theorems",
     "SHOW TRACE_BACK LABEL [/AXIOMS]  lists what a statement depends on",
@@ -52,6 +52,7 @@ const COMMANDS: [&str; 27] = [
     "CLOSE LOG                        ends the log",
     "PROVE LABEL [/OVERRIDE]          takes the proof of a theorem in hand",
     "ASSIGN STEP LABEL [/OVERRIDE]    makes an unknown step known, by a statement",
+    "REPLACE STEP LABEL [/OVERRIDE]   gives a known step another statement",
     "LET VARIABLE $N = TEXT           puts a text for a work variable",
     "LET STEP STEP = TEXT             unifies what a step says with a text",
     "UNIFY STEP STEP [/CHOICE N]      unifies a pending step",

@@ -1,6 +1,5 @@
-use Rattle.std.proofs.Common.{[], sym}
+use Rattle.std.proofs.Common.{[]}
 use Rattle.mm_edit.specs.Deleting.{deleted}
-use Rattle.mm_edit_commands.proofs.EditFits.{of_target}
 use Rattle.mm_edit_commands.proofs.EditLemmas.{edit_done, edit_refused}
 use Rattle.mm_edit_commands.specs.Refusals.{edit_refusal}
 use Rattle.mm_edit_commands.proofs.delete.delete_numbered.Goals as goal

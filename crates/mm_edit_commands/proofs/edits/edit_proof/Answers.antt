@@ -1,4 +1,4 @@
-use Rattle.std.proofs.Common.{◌≡◌, true, List, Ok, Err, subst, sym}
+use Rattle.std.proofs.Common.{true, Ok, Err, subst, sym}
 use Rattle.mm_command.specs.Meanings.{meaning_of}
 use Rattle.mm_plain.proofs.Owned.{own-valid}
 use Rattle.mm_subst.specs.Statements.{statement_of}

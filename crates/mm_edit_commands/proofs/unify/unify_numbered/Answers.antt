@@ -1,4 +1,3 @@
-use Rattle.mm_edit.specs.Unifying.{step_unified}
 use Rattle.mm_edit_commands.proofs.EditFits.{of_target}
 use Rattle.mm_edit_commands.proofs.unify.unify_numbered.Goals as goal
 

@@ -6,7 +6,7 @@ use Rattle.mm_lines.proofs.reader.LineReader.next_line.Goals as goal
 
 pub returns-in_err-read_line-clause-reads : goal.returns-in_err-read_line-clause-reads
 returns-in_err-read_line-clause-reads g c = let p = err_from_is_err_and c.from_residual.result c.from_residual.ensures.1 in rw (p.1, p.2)
-    (finds_none g.S.Source c.self.inside.begun c.self.inside.chunk c.self.inside.line c.self.inside.taken c.args.source.now c.args.self.now c.self.inside.ended c.self.view_is c.if-self.false c.self.invariant.free _ _ _ _ _ c.in_err-read_line.ensures.moves (λ e. c.in_err-read_line.ensures.spent (ap Err e)))
+    (finds_none g.S.Source c.self.inside.begun c.self.inside.chunk c.self.inside.line c.self.inside.taken c.args.source.now c.args.self.now c.self.inside.ended c.self.view_is c.if-self.false c.self.invariant.free _ _ _ _ _ c.in_err-read_line.ensures.moves (λ e. c.in_err-read_line.ensures.spent (ap Err e)) (λ e. c.in_err-read_line.ensures.failed (ap Err e)))
 
 pub returns-then-branch-clause-reads : goal.returns-then-branch-clause-reads
 returns-then-branch-clause-reads g c =
@@ -14,11 +14,11 @@ returns-then-branch-clause-reads g c =
 
 pub returns-then-is_empty-clause-reads : goal.returns-then-is_empty-clause-reads
 returns-then-is_empty-clause-reads g c =
-    finds_end g.S.Source c.self.inside.begun c.self.inside.chunk c.self.inside.line c.self.inside.taken c.args.source.now c.args.self.now c.self.inside.ended c.self.view_is c.if-self.false c.self.invariant.free _ _ _ _ _ c.in_ok-read_line.ensures.moves c.if-branch.false (c.in_ok-read_line.ensures.end (ap Ok c.if-branch.false)) (sym c.bytes.ensures ∙ none_of _ (sym c.is_empty.ensures ∙ c.if-is_empty.true))
+    finds_end g.S.Source c.self.inside.begun c.self.inside.chunk c.self.inside.line c.self.inside.taken c.args.source.now c.args.self.now c.self.inside.ended c.self.view_is c.if-self.false c.self.invariant.free _ _ _ _ _ c.in_ok-read_line.ensures.moves c.if-branch.false (c.in_ok-read_line.ensures.end (ap Ok c.if-branch.false)) (c.in_ok-read_line.ensures.unspent (ap Ok c.if-branch.false)) (sym c.bytes.ensures ∙ none_of _ (sym c.is_empty.ensures ∙ c.if-is_empty.true))
 
 pub returns-clause-reads : goal.returns-clause-reads
 returns-clause-reads g c =
-    finds_last g.S.Source c.self.inside.begun c.self.inside.chunk c.self.inside.line c.self.inside.taken c.args.source.now c.args.self.now c.self.inside.ended c.self.view_is c.if-self.false c.self.invariant.free _ _ _ _ _ _ _ c.in_ok-read_line.ensures.moves c.if-branch.false (c.in_ok-read_line.ensures.end (ap Ok c.if-branch.false)) (λ e. some_of _ (sym c.is_empty.ensures ∙ c.if-is_empty.false) (c.bytes.ensures ∙ e)) c.give-2.ensures.line c.give-2.ensures.anew
+    finds_last g.S.Source c.self.inside.begun c.self.inside.chunk c.self.inside.line c.self.inside.taken c.args.source.now c.args.self.now c.self.inside.ended c.self.view_is c.if-self.false c.self.invariant.free _ _ _ _ _ _ _ c.in_ok-read_line.ensures.moves c.if-branch.false (c.in_ok-read_line.ensures.end (ap Ok c.if-branch.false)) (c.in_ok-read_line.ensures.unspent (ap Ok c.if-branch.false)) (λ e. some_of _ (sym c.is_empty.ensures ∙ c.if-is_empty.false) (c.bytes.ensures ∙ e)) c.give-2.ensures.line c.give-2.ensures.anew
 
 pub returns-then-branch-clause-silent : goal.returns-then-branch-clause-silent
 returns-then-branch-clause-silent g c = λ s. c.in_ok-read_line.ensures.silent (silent_there g.S.Source c.self.inside.begun c.self.inside.chunk c.self.inside.line c.self.inside.taken c.args.source.now c.args.self.now c.self.inside.ended c.self.view_is c.if-self.false c.self.invariant.free s)

@@ -3,10 +3,11 @@ use Rattle.mm_plain.specs.declared.plain.Plain.{Plain}
 use Rattle.mm_plain.specs.Shape.{Proof}
 use Rattle.mm_plain.specs.Binding.{bound_in}
 use Rattle.mm_tree.specs.Versions.{Versions, KeepsMarks, hand_plain}
-use Rattle.mm_tree.specs.Trees.{State, IsWhole, versions_of}
+use Rattle.mm_tree.specs.Trees.{State, FindsKeys, IsWhole, versions_of}
 use Rattle.mm_tree.specs.View.{values}
 use Rattle.mm_tree.proofs.Keeping.{seven, seven-same, with_binding, kept-bound}
 use Rattle.mm_tree.proofs.Made.{bound-plain, bound-whole}
+use Rattle.mm_tree.proofs.Finding.{finds-bound}
 use Rattle.mm_tree.proofs.tree.Tree.add_binding.Goals as goal
 
 abbrev proof_by : ℕ → Plain → Proof
@@ -23,6 +24,7 @@ invariant_of-self-2 c =
       whole = subst (λ (u : Versions). IsWhole u c.self.inside.next) (sym e) (bound-whole v c.self.inside.next c.args.theta w);
       roots = c.self.invariant.roots;
       trail = omega (arith, b, c.in_ok-reserve.ensures.ok, c.in_ok-push.ensures.len, c.len-drafts.ensures, c.reserve.ensures.len, c.self.inside.trail.ok.0);
+      keyed = subst (FindsKeys c.add_keys.new.self) (sym e) (finds-bound c.self.inside.keyed c.add_keys.new.self v c.self.inside.next _ c.args.theta w (omega (arith, c.len-drafts.ensures, c.self.inside.draft_bindings.ok.0)) c.add_keys.ensures.kept c.self.invariant.keyed c.in_ok-add_keys.ensures.ok);
     }
 
 pub returns-clause-ok : goal.returns-clause-ok

@@ -2,9 +2,10 @@ use Rattle.std.proofs.Common.{◌≡◌, ℕ, ◌-◌, ap, sym, refl, subst, ◌
 use Rattle.mm_plain.specs.declared.plain.Plain.{Plain}
 use Rattle.mm_plain.specs.Shape.{Proof}
 use Rattle.mm_tree.specs.Versions.{Versions, IsAlive, KeepsUpTo, hand_plain, hand_length, hand_root, named}
-use Rattle.mm_tree.specs.Trees.{State, IsWhole, versions_of}
+use Rattle.mm_tree.specs.Trees.{State, FindsKeys, IsWhole, versions_of}
 use Rattle.mm_tree.specs.View.{values}
 use Rattle.mm_tree.proofs.Keeping.{seven, seven-same, cut_to, plain-cut, whole-cut, kept-cut, draft-mark, hand-cut, length-cut, values-take}
+use Rattle.mm_tree.proofs.Finding.{finds-cut}
 use Rattle.mm_tree.proofs.tree.Tree.back_to_draft.Goals as goal
 
 abbrev proof_by : ℕ → Plain → Proof
@@ -22,6 +23,7 @@ invariant_of-self c =
       whole = subst (λ (w : Versions). IsWhole w c.args.m.next) (sym e) (whole-cut v c.args.m c.self.inside.next c.self.invariant.whole c.requires.kind a);
       roots = omega (arith, c.truncate.ensures.len);
       trail = omega (arith, c.truncate-2.ensures.len);
+      keyed = subst (FindsKeys c.self.inside.keyed) (sym e) (finds-cut c.self.inside.keyed v c.args.m c.self.inside.next c.self.invariant.whole c.requires.kind a c.self.invariant.keyed);
     }
 
 pub returns-clause-proof : goal.returns-clause-proof

@@ -2,10 +2,11 @@ use Rattle.std.proofs.Common.{◌≡◌, ℕ, length, ap, sym, refl, subst, ◌�
 use Rattle.mm_plain.specs.declared.plain.Plain.{Plain}
 use Rattle.mm_plain.specs.Shape.{Proof}
 use Rattle.mm_tree.specs.Versions.{Versions, IsAlive, KeepsUpTo, hand_plain, named}
-use Rattle.mm_tree.specs.Trees.{State, IsWhole, versions_of}
+use Rattle.mm_tree.specs.Trees.{State, FindsKeys, IsWhole, versions_of}
 use Rattle.mm_tree.specs.View.{values}
 use Rattle.mm_tree.proofs.Shapes.{length-values}
 use Rattle.mm_tree.proofs.Keeping.{seven, seven-same, set_to, plain-set, whole-set, kept-set, settled-mark}
+use Rattle.mm_tree.proofs.Finding.{finds-set}
 use Rattle.mm_tree.proofs.tree.Tree.back_to_settled.Goals as goal
 
 abbrev proof_by : ℕ → Plain → Proof
@@ -23,6 +24,7 @@ invariant_of-self c =
       whole = subst (λ (w : Versions). IsWhole w c.args.m.next) (sym e) (whole-set v c.args.m turn c.turn_after-self-inside.ensures c.requires.kind a);
       roots = omega (arith, s, length-values c.self.inside.roots.items, c.self.inside.roots.ok.0, c.self.inside.roots.ok.1, c.clear.new.self.ok.0, ap length c.clear.ensures.items);
       trail = (let l = (settled-mark v c.args.m c.requires.kind a).long in omega (arith, l, c.self.inside.trail.ok.0, c.self.inside.trail.ok.1, c.clear-2.new.self.ok.0, ap length c.clear-2.ensures.items));
+      keyed = subst (FindsKeys c.self.inside.keyed) (sym e) (finds-set c.self.inside.keyed v c.args.m turn c.self.invariant.keyed);
     }
 
 pub returns-clause-proof : goal.returns-clause-proof

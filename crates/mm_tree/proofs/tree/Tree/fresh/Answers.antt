@@ -22,4 +22,5 @@ invariant_of-self c =
       };
       roots = c.self.invariant.roots;
       trail = c.self.invariant.trail;
+      keyed = c.self.invariant.keyed;
     }

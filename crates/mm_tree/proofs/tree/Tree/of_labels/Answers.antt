@@ -32,8 +32,8 @@ nodes_of-requires-clause-few g c = omega (arith, c.requires.few, ap length c.in_
 pub returns-in_err-nodes-clause-cost : goal.returns-in_err-nodes-clause-cost
 returns-in_err-nodes-clause-cost g c = omega (arith, c.nodes_of.ensures.cost, ap length c.in_ok-rows.ensures, count_rows c.args.db.now (c.in_ok-next.field-0 + 1) (c.in_ok-goal.goal ∷ []) c.args.labels.now)
 
-pub rooted-requires : goal.rooted-requires
-rooted-requires g c =
+pub rooted-requires-clause-sound : goal.rooted-requires-clause-sound
+rooted-requires-clause-sound g c =
     let b : Begun c.args.db.now c.args.at.0 c.args.labels.now = begun c.args.db.now c.args.at.0 c.args.labels.now c.requires.fold in
     let next : c.in_ok-next.field-0 + 1 ≡ draws_all c.args.db.now c.args.labels.now + 1 = ap (λ (n : ℕ). n + 1) c.in_ok-next.ensures.0 in
     sound_root c.args.db.now c.args.at.0 c.args.labels.now b c.in-Some.root.value (length c.new.result.items) (c.in_ok-next.field-0 + 1)

@@ -7,7 +7,7 @@ use Rattle.mm_plain.proofs.Parts.{size-part}
 use Rattle.mm_tree.specs.Meanings.{mean, count, youngest}
 use Rattle.mm_tree.specs.Paths.{IsPut}
 use Rattle.mm_tree.specs.Versions.{Versions, KeepsMarks, hand_plain, hand_node, hand_length, line_of}
-use Rattle.mm_tree.specs.Trees.{State, IsWhole, state_by, versions_of}
+use Rattle.mm_tree.specs.Trees.{State, FindsKeys, IsWhole, state_by, versions_of}
 use Rattle.mm_tree.specs.View.{values}
 use Rattle.mm_tree.specs.declared.timed.TimedTree.{TimedTree}
 use Rattle.mm_tree.proofs.Shapes.{length-values, size_of-mean, depth_at-mean}
@@ -71,6 +71,7 @@ invariant_of-self-3 g c =
           (subst (λ (s : State). height_of (put s.proof.plain c.args.step (mean c.args.new.value (line_of s.versions true))) ≤ 2000) (sym c.self.view_is) c.requires.low));
       roots = omega (arith, c.in_ok-reserve.ensures.ok, c.in_ok-push.ensures.len, c.len-drafts.ensures, c.reserve.ensures.len, length-values c.self.inside.roots.items, c.self.inside.roots.ok.0);
       trail = c.self.invariant.trail;
+      keyed = subst (FindsKeys c.self.inside.keyed) (sym e) c.self.invariant.keyed;
     }
 
 pub returns-clause-ok : goal.returns-clause-ok

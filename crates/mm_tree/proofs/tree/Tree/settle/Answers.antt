@@ -2,10 +2,11 @@ use Rattle.std.proofs.Common.{◌≡◌, ℕ, ◌+◌, length, ap, sym, refl, su
 use Rattle.mm_plain.specs.declared.plain.Plain.{Plain}
 use Rattle.mm_plain.specs.Shape.{Proof}
 use Rattle.mm_tree.specs.Versions.{Versions, KeepsOlder, hand_plain, hand_length, hand_root}
-use Rattle.mm_tree.specs.Trees.{State, IsWhole, versions_of}
+use Rattle.mm_tree.specs.Trees.{State, FindsKeys, IsWhole, versions_of}
 use Rattle.mm_tree.specs.View.{values}
 use Rattle.mm_tree.proofs.Shapes.{length-values}
 use Rattle.mm_tree.proofs.Keeping.{seven, seven-same, settled, plain-settled, whole-settled, older-settled, values-moved, pairs-moved}
+use Rattle.mm_tree.proofs.Finding.{finds-settled}
 use Rattle.mm_tree.proofs.tree.Tree.settle.Goals as goal
 
 abbrev proof_by : ℕ → Plain → Proof
@@ -27,6 +28,7 @@ invariant_of-self c =
       whole = subst (λ (w : Versions). IsWhole w c.self.inside.next) (sym e) (whole-settled v turn c.self.inside.next c.turn_after-self-inside.ensures c.self.invariant.whole);
       roots = omega (arith, c.len.ensures, c.truncate.ensures.capacity, c.move_all.ensures.room, c.move_all.new.from.ok.0, ap length c.move_all.ensures.empty);
       trail = omega (arith, c.length-length.ensures.hand, ap (λ (s : State). hand_length s.versions) c.self.view_is, c.self.inside.draft_bindings.ok.0, c.truncate-2.ensures.capacity, c.move_all-2.ensures.room, c.move_all-2.new.from.ok.0, ap length c.move_all-2.ensures.empty);
+      keyed = subst (FindsKeys c.self.inside.keyed) (sym e) (finds-settled c.self.inside.keyed v turn c.self.inside.next c.self.invariant.whole c.self.invariant.keyed);
     }
 
 pub returns-clause-same : goal.returns-clause-same
