@@ -25,3 +25,6 @@ pub mod Limits
 pub mod Limited
 pub mod ActiveKinds
 pub mod Unfolding
+pub mod Kids
+pub mod TraceLemmas
+pub mod TraceSteps

@@ -58,7 +58,7 @@ none_by f None h = refl
 none_by f (Some a) h = absurd (cc)
 
 module _ (c : Terms) (differ : VariablesDiffer c.bytes) (low : c.at < length (labels_of c.bytes)) (code : WSym) (t : List WSym) (fit : (has_work (code ∷ t) ≡ false) × (length (code ∷ t) ≤ most_symbols)) where
-  link : (r : ℕ) → ranks.chosen c r (code ∷ t) ≡ on (chosen_by c.bytes) (chosen (grammar_of c) r (code, t))
+  pub link : (r : ℕ) → ranks.chosen c r (code ∷ t) ≡ on (chosen_by c.bytes) (chosen (grammar_of c) r (code, t))
   link r = linked c (are_plain c differ low) (are_stated c low) r code t fit
 
   within_limit : (k : ℕ) → (x : ranks.Chosen) → x.rank ≡ k → ranks.IsAnswer c (code ∷ t) (Some x) → k ≤ rank_limit c.bytes (code ∷ t)

@@ -187,7 +187,7 @@ among_flat f (x ∷ xs) y h = elim (among_either y (f x) (flat_map f xs) h) [
   | inr b ↦ let r = among_flat f xs y b in (r.0, inr r.1, r.2)
 ]
 
-first_among : {X : Type 0} (p : X → Bool) (xs : List X) (x : X) → first p xs ≡ Some x → Among x xs × (p x ≡ true)
+pub first_among : {X : Type 0} (p : X → Bool) (xs : List X) (x : X) → first p xs ≡ Some x → Among x xs × (p x ≡ true)
 first_among p [] x h = absurd (cc)
 first_among p (y ∷ xs) x h = elim (cases_Bool (p y)) [
   | inl e ↦ let s : Some y ≡ Some x = sym (ap (λ (b : Bool). cond b (Some y) (first p xs)) e) ∙ h in let q : y ≡ x = cc in (inl (sym q), ap p (sym q) ∙ e)

@@ -74,7 +74,7 @@ drop-front (c ∷ w) s = drop-front w s
 within-behind : (t w s r : List WSym) → Within t s → behind w s ≡ Some r → Within t r
 within-behind t w s r h e = subst (Within t) (ap (drop (length w)) (behind-some w s r e) ∙ drop-front w r) (within-drop t s (length w) h)
 
-abbrev AreWithin : List WSym → List Goal → Type 0
+abbrev pub AreWithin : List WSym → List Goal → Type 0
 AreWithin t v = AllByRecursion (λ g. Within t g.1) v
 
 push : (t : List WSym) (v : List Goal) (g : Goal) → AreWithin t v → Within t g.1 → AreWithin t (v ++ g ∷ [])
@@ -82,7 +82,7 @@ push t [] g h k = (k, tt)
 push t (x ∷ v) g h k = (h.0, push t v g h.1 k)
 
 -- the values of a match are inside the string
-values-within : (ok : List Goal → Bool) (is : List Item) (v : List Goal) (s t : List WSym) (m : List Goal) → AreWithin t v → Within t s → Among m (items.matches ok is v s) → AreWithin t m
+pub values-within : (ok : List Goal → Bool) (is : List Item) (v : List Goal) (s t : List WSym) (m : List Goal) → AreWithin t v → Within t s → Among m (items.matches ok is v s) → AreWithin t m
 values-within ok [] v [] t m a w h = ended (ok v) h
   where
     ended : (b : Bool) → Among m (cond b (v ∷ []) []) → AreWithin t m
@@ -104,7 +104,7 @@ values-within ok (New code ∷ is) v s t m a w h =
     let r = among_some_length (λ n. items.matches ok is (v ++ (code, take n s) ∷ []) (drop n s)) (length s) m h in
     values-within ok is (v ++ (code, take r.0 s) ∷ []) (drop r.0 s) t m (push t v (code, take r.0 s) a (within-take t s r.0 w)) (within-drop t s r.0 w) r.3
 
-within-at : (t : List WSym) (v : List Goal) (j : ℕ) → j < length v → AreWithin t v → Within t (get_or v j no_goal).1
+pub within-at : (t : List WSym) (v : List Goal) (j : ℕ) → j < length v → AreWithin t v → Within t (get_or v j no_goal).1
 within-at t [] j l h = absurd (omega arith)
 within-at t (g ∷ v) zero l h = h.0
 within-at t (g ∷ v) (suc j) l h = within-at t v j (omega arith) h.1
@@ -136,7 +136,7 @@ flat_map_map : {X Y Z : Type 0} (h : X → Y) (f : Y → List Z) (xs : List X) �
 flat_map_map h f [] = refl
 flat_map_map h f (x ∷ xs) = ap (λ ys. f (h x) ++ ys) (flat_map_map h f xs)
 
-among_flat : {X Y : Type 0} (f : X → List Y) (xs : List X) (y : Y) → Among y (flat_map f xs) → (x : X) × Among x xs × Among y (f x)
+pub among_flat : {X Y : Type 0} (f : X → List Y) (xs : List X) (y : Y) → Among y (flat_map f xs) → (x : X) × Among x xs × Among y (f x)
 among_flat f [] y h = absurd h
 among_flat f (x ∷ xs) y h = elim (among_either y (f x) (flat_map f xs) h) [
   | inl a ↦ (x, inl refl, a)
@@ -144,10 +144,10 @@ among_flat f (x ∷ xs) y h = elim (among_either y (f x) (flat_map f xs) h) [
 ]
 
 module _ (c : Terms) (are_plain : (id : ℕ) → Among id (plain_assertions c) → IsPlainAssertion c.bytes id) (are_stated : (id : ℕ) → Among id (active_at c.bytes c.at) → IsStatedAs c.bytes id) where
-  abbrev G : items.Grammar
+  abbrev pub G : items.Grammar
   G = grammar_of c
 
-  abbrev IsFit : WSym → List WSym → Type 0
+  abbrev pub IsFit : WSym → List WSym → Type 0
   IsFit code t = (has_work (code ∷ t) ≡ false) × (length (code ∷ t) ≤ most_symbols)
 
   hypothesis_is : (code : WSym) (t : List WSym) → on (ranks.at_rank 0) (ranks.hypothesis c (code ∷ t)) ≡ on (chosen_by c.bytes) (items.hypothesis G (code, t))
@@ -173,19 +173,19 @@ module _ (c : Terms) (are_plain : (id : ℕ) → Among id (plain_assertions c) �
   abbrev Linked : ℕ → Type 0
   Linked r = (code : WSym) (t : List WSym) → IsFit code t → ranks.chosen c r (code ∷ t) ≡ on (chosen_by c.bytes) (items.chosen G r (code, t))
 
-  constants-stay : (bytes : List ℕ) (id : ℕ) (gs : List Goal) (ns : List ℕ) (F : ℕ → List WSym) (m : ℕ) → value_of (map (λ n. (Var n, F n)) ns) (Const m) ≡ Const m ∷ []
+  pub constants-stay : (bytes : List ℕ) (id : ℕ) (gs : List Goal) (ns : List ℕ) (F : ℕ → List WSym) (m : ℕ) → value_of (map (λ n. (Var n, F n)) ns) (Const m) ≡ Const m ∷ []
   constants-stay bytes id gs [] F m = refl
   constants-stay bytes id gs (n ∷ ns) F m = constants-stay bytes id gs ns F m
 
-  all_weaker : {X : Type 0} (P Q : X → Type 0) → ((x : X) → P x → Q x) → (xs : List X) → AllByRecursion P xs → AllByRecursion Q xs
+  pub all_weaker : {X : Type 0} (P Q : X → Type 0) → ((x : X) → P x → Q x) → (xs : List X) → AllByRecursion P xs → AllByRecursion Q xs
   all_weaker P Q f [] h = tt
   all_weaker P Q f (x ∷ xs) h = (f x h.0, all_weaker P Q f xs h.1)
 
-  places : (P : ℕ → Type 0) (keys ns : List ℕ) → ((i : ℕ) → i < length ns → P (get_or ns i 0)) → AllByRecursion P ns
+  pub places : (P : ℕ → Type 0) (keys ns : List ℕ) → ((i : ℕ) → i < length ns → P (get_or ns i 0)) → AllByRecursion P ns
   places P keys [] h = tt
   places P keys (n ∷ ns) h = (h 0 (omega arith), places P keys ns (λ i l. h (suc i) (omega arith)))
 
-  goal_fit : (code : WSym) (t : List WSym) (g : Goal) → IsFit code t → is_work g.0 ≡ false → Within t g.1 → IsFit g.0 g.1
+  pub goal_fit : (code : WSym) (t : List WSym) (g : Goal) → IsFit code t → is_work g.0 ≡ false → Within t g.1 → IsFit g.0 g.1
   goal_fit code t g fit e w = (
     ap (λ (b : Bool). b || has_work g.1) e ∙ w.plain (later (is_work code) fit.0),
     (let a = w.short in let b = fit.1 in omega arith),
@@ -196,7 +196,7 @@ module _ (c : Terms) (are_plain : (id : ℕ) → Among id (plain_assertions c) �
       later false h = h
 
   -- the typecode of a part is a constant
-  code-plain : (keys : List ℕ) (codes : List WSym) (v : Pairs) (j : ℕ) → AllByRecursion (λ c. (m : ℕ) × (c ≡ Const m)) codes → is_work (get_or (goals keys codes v) j no_goal).0 ≡ false
+  pub code-plain : (keys : List ℕ) (codes : List WSym) (v : Pairs) (j : ℕ) → AllByRecursion (λ c. (m : ℕ) × (c ≡ Const m)) codes → is_work (get_or (goals keys codes v) j no_goal).0 ≡ false
   code-plain keys codes [] j h = refl
   code-plain keys codes (q ∷ v) (suc j) h = code-plain keys codes v j h
   code-plain keys codes ((Const n, w) ∷ v) zero h = refl

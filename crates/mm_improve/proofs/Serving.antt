@@ -73,7 +73,7 @@ differ-in keys seen (Var n ∷ s) d = differ-in keys (with_variable seen n (plac
 differ-in keys seen (Work n ∷ s) d = differ-in keys seen s d
 
 module _ (keys : List ℕ) (codes : List WSym) where
-  seen-length : (seen : List ℕ) (v : Pairs) → AreSeen keys codes seen v → length v ≡ length seen
+  pub seen-length : (seen : List ℕ) (v : Pairs) → AreSeen keys codes seen v → length v ≡ length seen
   seen-length [] [] h = refl
   seen-length [] (q ∷ v) h = absurd h
   seen-length (n ∷ seen) [] h = absurd h
@@ -118,13 +118,13 @@ parts_of [] ns F = []
 parts_of (c ∷ cs) [] F = []
 parts_of (c ∷ cs) (n ∷ ns) F = (c ∷ F n) ∷ parts_of cs ns F
 
-parts-length : (cs : List WSym) (ns : List ℕ) (F : ℕ → List WSym) → length cs ≡ length ns → length (parts_of cs ns F) ≡ length ns
+pub parts-length : (cs : List WSym) (ns : List ℕ) (F : ℕ → List WSym) → length cs ≡ length ns → length (parts_of cs ns F) ≡ length ns
 parts-length [] [] F h = refl
 parts-length [] (n ∷ ns) F h = absurd (cc)
 parts-length (c ∷ cs) [] F h = absurd (cc)
 parts-length (c ∷ cs) (n ∷ ns) F h = ap suc (parts-length cs ns F (let z : length cs ≡ length ns = cc in z))
 
-part-at : (cs : List WSym) (ns : List ℕ) (F : ℕ → List WSym) (i : ℕ) → length cs ≡ length ns → i < length ns → get_or (parts_of cs ns F) i [] ≡ get_or cs i (Const 0) ∷ F (get_or ns i 0)
+pub part-at : (cs : List WSym) (ns : List ℕ) (F : ℕ → List WSym) (i : ℕ) → length cs ≡ length ns → i < length ns → get_or (parts_of cs ns F) i [] ≡ get_or cs i (Const 0) ∷ F (get_or ns i 0)
 part-at [] [] F i h l = absurd (omega arith)
 part-at [] (n ∷ ns) F i h l = absurd (cc)
 part-at (c ∷ cs) [] F i h l = absurd (cc)

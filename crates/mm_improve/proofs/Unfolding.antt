@@ -42,7 +42,7 @@ all_true : {X : Type 0} (p : X → Bool) (xs : List X) → list_all p xs ≡ tru
 all_true p [] h = tt
 all_true p (x ∷ xs) h = let w = and_parts (p x) (list_all p xs) h in (w.0, all_true p xs w.1)
 
-same_on : {X Y : Type 0} (f g : X → Y) (P : X → Type 0) → ((x : X) → P x → f x ≡ g x) → (xs : List X) → AllByRecursion P xs → map f xs ≡ map g xs
+pub same_on : {X Y : Type 0} (f g : X → Y) (P : X → Type 0) → ((x : X) → P x → f x ≡ g x) → (xs : List X) → AllByRecursion P xs → map f xs ≡ map g xs
 same_on f g P e [] h = refl
 same_on f g P e (x ∷ xs) h = ap (λ y. y ∷ map f xs) (e x h.0) ∙ ap (λ ys. g x ∷ ys) (same_on f g P e xs h.1)
 
@@ -50,7 +50,7 @@ all_weaker : {X : Type 0} (P Q : X → Type 0) → ((x : X) → P x → Q x) →
 all_weaker P Q f [] h = tt
 all_weaker P Q f (x ∷ xs) h = (f x h.0, all_weaker P Q f xs h.1)
 
-some_there : {A : Type 0} (o : Option A) → is_there o ≡ true → (a : A) × (o ≡ Some a)
+pub some_there : {A : Type 0} (o : Option A) → is_there o ≡ true → (a : A) × (o ≡ Some a)
 some_there None h = absurd (false≢true h)
 some_there (Some a) h = (a, refl)
 
@@ -94,11 +94,11 @@ module _ (c : Terms) where
   there_stays : (r : ℕ) (g : List WSym) → is_there (chosen c r g) ≡ true → is_there (chosen c (suc r) g) ≡ true
   there_stays r g h = let x = some_there (chosen c r g) h in ap is_there (stays r g x.0 x.1)
 
-  abbrev parts_of : Chosen → List (List WSym)
+  abbrev pub parts_of : Chosen → List (List WSym)
   parts_of x = parts c.bytes x.use_.id x.use_.sigma
 
   -- a hypothesis has no parts
-  no_parts : (g : List WSym) (x : Chosen) → chosen c 0 g ≡ Some x → parts_of x ≡ []
+  pub no_parts : (g : List WSym) (x : Chosen) → chosen c 0 g ≡ Some x → parts_of x ≡ []
   no_parts g x h = by (first (λ id. pointwise is_same g (statement_of c.bytes id)) (active_at c.bytes c.at)) refl (short_of g _ x (sym (at-zero g) ∙ h)).1
     where
       by : (o : Option ℕ) → first (λ id. pointwise is_same g (statement_of c.bytes id)) (active_at c.bytes c.at) ≡ o → on (at_rank 0) (on (λ id. record { id = id; sigma = [] }) o) ≡ Some x → parts_of x ≡ []
@@ -108,7 +108,7 @@ module _ (c : Terms) where
           let is = first_holds (λ m. is_hypothesis (stated_at c.bytes m).kind ≡ true) (λ id. pointwise is_same g (statement_of c.bytes id)) (active_at c.bytes c.at) id (active_are_hypotheses c.bytes c.at) e in
           subst (λ y. parts_of y ≡ []) q (ap (map (applied [])) (premises_none c.bytes id is))
 
-  abbrev AllThere : ℕ → List (List WSym) → Type 0
+  abbrev pub AllThere : ℕ → List (List WSym) → Type 0
   AllThere r gs = AllByRecursion (λ g. is_there (chosen c r g) ≡ true) gs
 
   use_parts : (r : ℕ) (g : List WSym) (x : Chosen) (o : Option Use) → first (serves c (chosen c r)) (uses c g) ≡ o → on (at_rank (suc r)) o ≡ Some x → AllThere r (parts_of x)

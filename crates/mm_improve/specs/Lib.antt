@@ -6,3 +6,4 @@ pub mod Charts
 pub mod Grammars
 pub mod Searches
 pub mod Proving
+pub mod Traces

@@ -95,7 +95,7 @@ pub fn itemized(
 }
 
 /// The place of a variable among some; 0 where it is not there.
-fn place_or_none(order: &[u32], number: u32) -> usize
+pub fn place_or_none(order: &[u32], number: u32) -> usize
     ensures { result ≡ place_or_none (place order.now number) }
 {
     match place_of(order, number) {

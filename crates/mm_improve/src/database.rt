@@ -53,7 +53,7 @@ fn codes_of(alloc: Global, db: &Database, ids: &[u32]) -> Result<Vec<WSym>, Memo
 }
 
 /// The symbols of a statement behind the first.
-fn text_of(alloc: Global, db: &Database, id: StmtId) -> Result<Vec<WSym>, Memory>
+pub fn text_of(alloc: Global, db: &Database, id: StmtId) -> Result<Vec<WSym>, Memory>
     requires { id.0 < length (labels_of db.now) }
     ensures { IfOk result (λ v. v.items ≡ (split (statement_of db.now id.0)).1) }
 {

@@ -11,6 +11,7 @@ mod laws;
 mod reach;
 mod search;
 mod table;
+mod tracing;
 
 pub use database::{Search, rules};
 pub use fault::ImproveFault;
@@ -18,3 +19,4 @@ pub use filling::{chart, chosen_proof};
 pub use grammar::{Hypothesis, Item, Pattern, Rules};
 pub use laws::{answers_agree, ranks_are_limited, trees_unfold};
 pub use table::{Entry, Part, Rows};
+pub use tracing::{Trace, steps_back};

@@ -53,7 +53,7 @@ label_tree-unknown : (t : List WSym) → label_tree (unknown t) ≡ tree 0 none
 unfolding label_tree
 label_tree-unknown t = F.fold-roll-Plain Tree label_step (L.Unknown t)
 
-label_tree-known : (t : List WSym) (l : ℕ) (s : Pairs) (kids : List Plain) → label_tree (known t l s kids) ≡ tree (suc l) (trees_of (map label_tree kids))
+pub label_tree-known : (t : List WSym) (l : ℕ) (s : Pairs) (kids : List Plain) → label_tree (known t l s kids) ≡ tree (suc l) (trees_of (map label_tree kids))
 unfolding label_tree
 label_tree-known t l s kids = F.fold-roll-Plain Tree label_step (L.Known t l s kids)
 

@@ -12,3 +12,10 @@ pub mod NoWork
 pub mod Incomplete
 pub mod WithoutPairs
 pub mod Paired
+mod PushedValues
+mod PushedSteps
+mod PushedRuns
+mod PushedShapes
+mod Active
+mod Fitting
+mod Proven

@@ -4,3 +4,5 @@ pub mod Apart
 pub mod Proves
 pub mod Written
 pub mod LabelTrees
+pub mod Pushed
+pub mod Substituted

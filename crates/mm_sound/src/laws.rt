@@ -1,11 +1,12 @@
 //! What holds of valid and complete proofs.
 
-ghost use Rattle.std.specs.Prelude.{◌≡◌, ◌<◌, ℕ, true, false, List, [], ◌∷◌, Some, Ok, Err, Result, length};
+ghost use Rattle.std.specs.Prelude.{◌≡◌, ◌<◌, All, Bool, ℕ, true, false, List, [], ◌∷◌, Some, Ok, Err, Result, length};
 ghost use Rattle.mm_scope.specs.Contents.{is_read, labels_of, stated_at, distinct_at};
 ghost use Rattle.mm_stated.specs.declared.statement.Kind.TheVariants.{Theorem};
 ghost use Rattle.mm_subst.specs.Statements.{statement_of};
 ghost use Rattle.mm_subst.specs.declared.symbol.WSym.{WSym};
 ghost use Rattle.mm_plain.specs.Shape.{Each, Proof, steps_of};
+ghost use Rattle.mm_plain.specs.Binding.{has_works};
 ghost use Rattle.mm_plain.specs.Valid.{IsValid};
 ghost use Rattle.mm_stack.specs.Running.{run};
 ghost use Rattle.mm_proof.specs.Compacting.{compact};
@@ -14,6 +15,7 @@ ghost use Rattle.mm_proof.specs.Encoding.{kind_of, compressed_proof};
 ghost use Rattle.mm_proof.specs.Forests.{trees_in};
 ghost use Rattle.mm_proof.specs.Spelling.{steps_read};
 ghost use Rattle.mm_proof.specs.Standing.{MayProve};
+ghost use Rattle.mm_proof.specs.Trees.{Tree, trees_of};
 ghost use Rattle.mm_stack.specs.Accepting.{Accepts, verdict_by, verdict_of};
 ghost use Rattle.mm_proof.specs.declared.fault.ProofFault.{ProofFault};
 ghost use Rattle.mm_stack.specs.declared.outcome.Verdict.TheVariants.{Accepted, Incomplete};
@@ -24,7 +26,11 @@ ghost use Rattle.mm_sound.specs.Complete.{IsComplete, IsPlainStep, IsSettled, ha
 ghost use Rattle.mm_sound.specs.LabelTrees.{label_tree};
 ghost use Rattle.mm_sound.specs.Numbers.{numbers};
 ghost use Rattle.mm_sound.specs.Proves.{Proves};
+ghost use Rattle.mm_sound.specs.Pushed.{IsSmall, Spells, pushed_proof, pushed_tree};
+ghost use Rattle.mm_sound.specs.Substituted.{HasValues, substituted_in};
 ghost use Rattle.mm_sound.specs.Written.{texts_in, written};
+
+use mm_scope::mandatory_variables_differ;
 
 /// The machine runs the steps of a valid and complete proof without a fault, and its stack is then the statement that is
 /// proved, where each step keeps the pairs of variables that must differ (Metamath book, section 4.1.4). So it is with any
@@ -88,4 +94,19 @@ pub fn compressed_proofs_are_accepted(bytes: &[u8])
     ensures stands { (at : ℕ) (goal : List WSym) (p : Proof) → at < length (labels_of bytes.now) → IsValid bytes.now at goal p → MayProve bytes.now at (label_tree p.plain) }
 {
     let _ = bytes;
+}
+
+/// Each accepted proof is a proof tree (Metamath book, section 4.1.4). The steps that its text spells, in either form, fold to
+/// one label tree, where a back reference is a copy. The strings that the machine pushes make of it a valid and complete proof
+/// of the theorem, which keeps the pairs of variables that must differ, where it isn't too large. This proof has that label
+/// tree, and no work variables, and its values are among those that the machine substitutes: they pass each test that these
+/// do.
+pub fn accepted_proofs_are_trees(bytes: &[u8])
+    ensures tree { (at : ℕ) → verdict_of bytes.now at ≡ Accepted → (t : Tree) × Spells bytes.now at t }
+    ensures proves { (at next : ℕ) (t : Tree) → verdict_of bytes.now at ≡ Accepted → Spells bytes.now at t → IsSmall t next → Proves bytes.now at (pushed_proof bytes.now t next) }
+    ensures labels { (at : ℕ) (t : Tree) → verdict_of bytes.now at ≡ Accepted → Spells bytes.now at t → trees_of (label_tree (pushed_tree bytes.now t) ∷ []) ≡ trees_of (t ∷ []) }
+    ensures plain { (at : ℕ) (t : Tree) → verdict_of bytes.now at ≡ Accepted → Spells bytes.now at t → has_works (pushed_tree bytes.now t) ≡ false }
+    ensures values { (at : ℕ) (test : List WSym → Bool) (t : Tree) → verdict_of bytes.now at ≡ Accepted → Spells bytes.now at t → All (λ v. test v ≡ true) (substituted_in bytes.now at) → HasValues test (pushed_tree bytes.now t) }
+{
+    mandatory_variables_differ(bytes);
 }

@@ -7,7 +7,8 @@
 mod laws;
 
 pub use laws::{
-    complete_proofs_are_accepted, complete_proofs_have_no_work_variables, complete_proofs_run,
-    compressed_proofs_are_accepted, unknown_steps_leave_a_proof_incomplete,
-    written_proofs_are_accepted, written_proofs_spell_their_steps,
+    accepted_proofs_are_trees, complete_proofs_are_accepted,
+    complete_proofs_have_no_work_variables, complete_proofs_run, compressed_proofs_are_accepted,
+    unknown_steps_leave_a_proof_incomplete, written_proofs_are_accepted,
+    written_proofs_spell_their_steps,
 };

@@ -205,7 +205,7 @@ module _ (trace : List (List ℕ)) (marked : List Bool) (earlier : IsEarlier (us
 
 -- ## The trace of a database
 
-same_any : (p q : ℕ → Bool) (n : ℕ) → ((k : ℕ) → k < n → p k ≡ q k) → some_below n p ≡ some_below n q
+pub same_any : (p q : ℕ → Bool) (n : ℕ) → ((k : ℕ) → k < n → p k ≡ q k) → some_below n p ≡ some_below n q
 same_any p q n h = same_by (some_below n p) (some_below n q)
     (λ is. let m = some_member p (range_with_len 0 n) is in let s = among_range n m.number m.among in below_passes n q m.number s (sym (h m.number s) ∙ m.passes))
     (λ is. let m = some_member q (range_with_len 0 n) is in let s = among_range n m.number m.among in below_passes n p m.number s (h m.number s ∙ m.passes))

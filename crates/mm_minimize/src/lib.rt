@@ -1,0 +1,12 @@
+//! A complete proof made shorter: steps are replaced by earlier assertions, tried in the order of the database.
+#![tactic(auto)]
+
+mod bases;
+mod fault;
+mod laws;
+mod proved;
+
+pub use bases::{named, resting_on};
+pub use fault::MinimizeFault;
+pub use laws::{replacements_fit, shorter_proofs_are_chains, used_statements_are_allowed};
+pub use proved::is_proved;
