@@ -7,8 +7,11 @@ pub mod Letting
 pub mod Unifying
 pub mod Falling
 pub mod Initializing
+pub mod Improving
+pub mod ImproveLemmas
 pub mod Deleting
 pub mod Replacing
+pub mod ReplaceLemmas
 pub mod Short
 pub mod Listings
 pub mod TryingLemmas

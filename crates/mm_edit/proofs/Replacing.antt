@@ -14,8 +14,6 @@ use Rattle.mm_subst.specs.Substitutions.{Pairs, applied}
 use Rattle.mm_unify.specs.declared.listing.Settings.{Settings}
 use Rattle.mm_unify.specs.Search.{Answer}
 use Rattle.mm_plain.specs.declared.plain.Plain.{Plain}
-use Rattle.mm_plain.specs.declared.plain.Plain.TheOpen as L
-use Rattle.mm_plain.specs.declared.plain.Plain.TheViews as V
 use Rattle.mm_plain.specs.Binding.{bound, bound_in, IsBinding}
 use Rattle.mm_plain.specs.Drawing.{fresh_for}
 use Rattle.mm_plain.specs.Grafts.{cleared, cleared_in, grafted_in, raised}
@@ -38,7 +36,9 @@ use Rattle.mm_edit.specs.Applying.{applying, applying_only, bound_by}
 use Rattle.mm_edit.specs.Assigning.{draws, named, listed_named}
 use Rattle.mm_edit.specs.Keeping.{IsKept, IsProofOf}
 use Rattle.mm_edit.specs.Listed.{only_unifier}
-use Rattle.mm_edit.specs.Replacing.{number_cleared, number_over, first_with, refilled_layer, refilled, refilled_in, are_long, refilling, replaced}
+use Rattle.mm_tree.specs.Replacing.{number_cleared, number_over, first_with, refilled, refilled_in, are_long}
+use Rattle.mm_tree.proofs.Refilled.{refilled-known, refilled-unknown}
+use Rattle.mm_edit.specs.Replacing.{refilling, replaced}
 use Rattle.mm_plain.specs.Children.{children_of}
 use Rattle.mm_plain.proofs.Children.{children_of-unknown, children_of-known}
 use Rattle.mm_edit.specs.Steps.{has_many, is_deep}
@@ -50,20 +50,12 @@ use Rattle.mm_edit.proofs.Falling.{same-string}
 
 -- the children of a step
 
-children-sound : (c : Setting) (x : Plain) → IsSound c x → Each (IsSound c) (children_of x)
+pub children-sound : (c : Setting) (x : Plain) → IsSound c x → Each (IsSound c) (children_of x)
 children-sound c = by_trees (λ x. IsSound c x → Each (IsSound c) (children_of x))
     (λ t h. subst (Each (IsSound c)) (sym (children_of-unknown t)) tt)
     (λ t l s kids e h. subst (Each (IsSound c)) (sym (children_of-known t l s kids)) (kids-sound c t l s kids h).0)
 
 -- a step whose children take other trees
-
-pub refilled-unknown : (olds : List Plain) (t : List WSym) → refilled olds (unknown t) ≡ unknown t
-unfolding refilled
-refilled-unknown olds t = ap (refilled_layer olds) (V.out-roll-Plain (L.Unknown t))
-
-pub refilled-known : (olds : List Plain) (t : List WSym) (l : ℕ) (s : Pairs) (kids : List Plain) → refilled olds (known t l s kids) ≡ known t l s (map (λ y. first_with olds (target_of y)) kids)
-unfolding refilled
-refilled-known olds t l s kids = ap (refilled_layer olds) (V.out-roll-Plain (L.Known t l s kids))
 
 pub target_of-first : (olds : List Plain) (t : List WSym) → target_of (first_with olds t) ≡ t
 target_of-first [] t = target_of-unknown t
@@ -101,7 +93,7 @@ sound-refilled c olds e = by_trees (λ x. IsSound c x → IsSound c (refilled ol
 
 -- sound proofs, whatever their size
 
-record IsSoundProof (bytes : List ℕ) (at : ℕ) (goal : List WSym) (p : Proof) : Type 0 where
+pub record IsSoundProof (bytes : List ℕ) (at : ℕ) (goal : List WSym) (p : Proof) : Type 0 where
   pub goal_is : target_of p.plain ≡ goal
   pub steps : IsSound (setting_of bytes at p) p.plain
   pub counter : (1 ≤ p.next) × (p.next ≤ most_works + 1)
@@ -109,7 +101,7 @@ record IsSoundProof (bytes : List ℕ) (at : ℕ) (goal : List WSym) (p : Proof)
 sound-valid : (bytes : List ℕ) (at : ℕ) (goal : List WSym) (p : Proof) → IsValid bytes at goal p → IsSoundProof bytes at goal p
 sound-valid bytes at goal p v = record { goal_is = v.goal_is; steps = v.steps; counter = v.counter }
 
-sound-named : (bytes : List ℕ) (at : ℕ) (goal : List WSym) (p : Proof) (k id : ℕ) → IsValid bytes at goal p → IsNaming bytes at p k id → IsSoundProof bytes at goal (named bytes p k id)
+pub sound-named : (bytes : List ℕ) (at : ℕ) (goal : List WSym) (p : Proof) (k id : ℕ) → IsValid bytes at goal p → IsNaming bytes at p k id → IsSoundProof bytes at goal (named bytes p k id)
 sound-named bytes at goal p k id v n =
     let c = setting_of bytes at p in
     let kept = placed-kept (setting_of bytes at (raised_for bytes p id)) p.plain k id (fresh_for bytes p.next id) n.low n.high (fits-named bytes at goal p k id v n) (sound-raised c (p.next + draws bytes id) (omega arith) p.plain v.steps) in

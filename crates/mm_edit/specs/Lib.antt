@@ -7,6 +7,8 @@ pub mod Replacing
 pub mod Letting
 pub mod Unifying
 pub mod Initializing
+pub mod Improving
+pub mod Proving
 pub mod Deleting
 pub mod Keeping
 pub mod Edited

@@ -32,7 +32,7 @@ use std::sync::ledger::Ledger;
 
 /// Whether a step of the proof of a theorem may name a statement.
 #[tactic(auto, unfolding(mm_plain::specs::Premises::may_stand))]
-fn check_standing(db: &Database, at: StmtId, id: StmtId) -> Result<(), EditFault>
+pub fn check_standing(db: &Database, at: StmtId, id: StmtId) -> Result<(), EditFault>
     requires at { at.0 < length (labels_of db.now) }
     requires own { id.0 < length (labels_of db.now) }
     ensures { MatchResult result (λ _. may_stand db.now at.0 id.0 ≡ true) (λ f. (may_stand db.now at.0 id.0 ≡ false) × (f ≡ not_standing db.now id.0)) }
@@ -70,7 +70,7 @@ fn source_under(alloc: Global, db: &Database, id: StmtId, sigma: &Subst) -> Resu
 }
 
 /// The unifiers of the target of a step with what a statement says under a substitution.
-fn list_named(
+pub fn list_named(
     alloc: Global,
     tree: &Tree,
     db: &Database,

@@ -14,7 +14,7 @@ use std::alloc::Global;
 /// Draws a work variable for each mandatory variable of a statement.
 pub fn draw(alloc: Global, tree: &mut Tree, db: &Database, id: StmtId) -> Result<Subst, EditFault>
     requires own { id.0 < length (labels_of db.now) }
-    requires few { length (premises_of db.now id.0) ≤ 1000000 }
+    requires few { length (premises_of db.now id.0) ≤ 2000000000 }
     ensures drawn { IsDrawnFor db.now id.0 result tree.old.proof tree.new.proof }
     ensures versions { tree.new.versions ≡ tree.old.versions }
 {

@@ -8,6 +8,7 @@ use Rattle.mm_edit.specs.Deleting.{deleted, floats_deleted}
 use Rattle.mm_edit.specs.Initializing.{all_initialized, initialized}
 use Rattle.mm_edit.specs.Letting.{step_let, variable_let}
 use Rattle.mm_edit.specs.Listed.{listed_at}
+use Rattle.mm_edit.specs.Replacing.{replaced}
 use Rattle.mm_edit.specs.Steps.{is_unknown}
 use Rattle.mm_edit.specs.Unifying.{all_unified, step_unified}
 use Rattle.mm_command.specs.declared.command.StepWord.{StepWord}
@@ -22,6 +23,7 @@ use Rattle.mm_shell.specs.declared.answer.Change.TheVariants.{Opens}
 use Rattle.mm_shell.specs.declared.refusal.Refusal.{Refusal}
 use Rattle.mm_shell.specs.declared.refusal.Refusal.TheVariants.{Guarded, NothingChanged, OutOfMemory, NotBuilt}
 use Rattle.mm_shell.specs.declared.report.Report.TheVariants.{Counts as Counted}
+use Rattle.mm_edit_commands.specs.Improving.{improve_all, improve_step}
 use Rattle.mm_edit_commands.specs.Refusals.{edit_refusal, unify_refusal, wrong_word}
 use Rattle.mm_edit_commands.specs.Steps.{step_number}
 use Rattle.mm_edit_commands.specs.Values.{is_empty, value_of}
@@ -34,6 +36,14 @@ assign set bytes theorem p step label guarded_too =
     given (statement_named bytes label) (λ id.
     unless ((is_forbidden guarded_too bytes id, Guarded label) ∷ [])
     (or_refusal (assigned bytes theorem set p (step_number p.plain step) id) (edit_refusal label (step_number p.plain step))))
+
+-- ## REPLACE
+
+abbrev pub replace : Settings → List ℕ → ℕ → Proof → StepWord → List ℕ → Bool → Result Proof Refusal
+replace set bytes theorem p step label guarded_too =
+    given (statement_named bytes label) (λ id.
+    unless ((is_forbidden guarded_too bytes id, Guarded label) ∷ [])
+    (or_refusal (replaced bytes theorem set p (step_number p.plain step) id) (edit_refusal label (step_number p.plain step))))
 
 -- ## LET
 
@@ -93,6 +103,7 @@ delete_floats bytes p = or_refusal (floats_deleted bytes p) (edit_refusal [] 0)
 
 abbrev pub is_built : Meaning → Bool
 is_built (meaning.Assign step label guarded_too) = true
+is_built (meaning.Replace step label guarded_too) = true
 is_built (meaning.LetVariable number text word) = true
 is_built (meaning.LetStep step text word) = true
 is_built (meaning.UnifyStep step choice) = true
@@ -102,11 +113,14 @@ is_built meaning.InitializeAll = true
 is_built (meaning.DeleteStep step) = true
 is_built meaning.DeleteAll = true
 is_built meaning.DeleteFloats = true
+is_built (meaning.Improve step depth no_distinct) = true
+is_built (meaning.ImproveAll depth no_distinct) = true
 is_built _ = false
 
 -- the proof of a theorem after an edit under the settings
 unfoldable pub edit_of : Meaning → Settings → List ℕ → ℕ → Proof → Result Proof Refusal
 edit_of (meaning.Assign step label guarded_too) set bytes theorem p = assign set bytes theorem p step label guarded_too
+edit_of (meaning.Replace step label guarded_too) set bytes theorem p = replace set bytes theorem p step label guarded_too
 edit_of (meaning.LetVariable number text word) set bytes theorem p = let_variable bytes theorem p number text word
 edit_of (meaning.LetStep step text word) set bytes theorem p = let_step set bytes theorem p step text word
 edit_of (meaning.UnifyStep step choice) set bytes theorem p = unify_step set bytes p step choice
@@ -116,6 +130,8 @@ edit_of meaning.InitializeAll set bytes theorem p = initialize_all bytes p
 edit_of (meaning.DeleteStep step) set bytes theorem p = delete_step p step
 edit_of meaning.DeleteAll set bytes theorem p = delete_all p
 edit_of meaning.DeleteFloats set bytes theorem p = delete_floats bytes p
+edit_of (meaning.Improve step depth no_distinct) set bytes theorem p = improve_step set bytes theorem p step depth no_distinct
+edit_of (meaning.ImproveAll depth no_distinct) set bytes theorem p = improve_all set bytes theorem p depth no_distinct
 edit_of _ set bytes theorem p = Err NotBuilt
 
 -- what an edit comes to

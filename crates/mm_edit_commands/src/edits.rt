@@ -14,8 +14,10 @@ ghost use Rattle.mm_edit_commands.specs.Ending.{EndsEdit};
 
 use crate::assign::assign;
 use crate::delete::{delete_all, delete_floats, delete_step};
+use crate::improve::{improve_all, improve_step};
 use crate::initialize::{initialize_all, initialize_step};
 use crate::let_text::{let_step, let_variable};
+use crate::replace::replace;
 use crate::unify::{unify_all, unify_step};
 use mm_base::{Memory, Steps};
 use mm_command::Command;
@@ -65,6 +67,7 @@ fn is_built(command: Command<'_>) -> bool
 {
     match command {
         Command::Assign { .. }
+        | Command::Replace { .. }
         | Command::LetVariable { .. }
         | Command::LetStep { .. }
         | Command::UnifyStep { .. }
@@ -73,7 +76,9 @@ fn is_built(command: Command<'_>) -> bool
         | Command::InitializeAll
         | Command::DeleteStep { .. }
         | Command::DeleteAll
-        | Command::DeleteFloats => true,
+        | Command::DeleteFloats
+        | Command::Improve { .. }
+        | Command::ImproveAll { .. } => true,
         _ => false,
     }
 }
@@ -188,6 +193,21 @@ fn edit_tree<'a, L: Ledger>(
             guarded_too,
             steps,
         ),
+        Command::Replace {
+            step,
+            label,
+            guarded_too,
+        } => replace(
+            alloc,
+            settings,
+            database,
+            theorem,
+            tree,
+            step,
+            label,
+            guarded_too,
+            steps,
+        ),
         Command::LetVariable { number, text, word } => let_variable(
             alloc, settings, database, theorem, tree, number, text, word, steps,
         ),
@@ -207,6 +227,31 @@ fn edit_tree<'a, L: Ledger>(
         }
         Command::DeleteAll => delete_all(alloc, settings, database, theorem, tree, steps),
         Command::DeleteFloats => delete_floats(alloc, settings, database, theorem, tree, steps),
+        Command::Improve {
+            step,
+            depth,
+            no_distinct,
+        } => improve_step(
+            alloc,
+            settings,
+            database,
+            theorem,
+            tree,
+            step,
+            depth,
+            no_distinct,
+            steps,
+        ),
+        Command::ImproveAll { depth, no_distinct } => improve_all(
+            alloc,
+            settings,
+            database,
+            theorem,
+            tree,
+            depth,
+            no_distinct,
+            steps,
+        ),
         _ => Err(Refusal::NotBuilt),
     }
 }

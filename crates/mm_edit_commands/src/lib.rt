@@ -4,9 +4,11 @@
 mod assign;
 mod delete;
 mod edits;
+mod improve;
 mod initialize;
 mod let_text;
 mod refusals;
+mod replace;
 mod step_words;
 mod unify;
 

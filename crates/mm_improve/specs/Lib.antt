@@ -5,3 +5,4 @@ pub mod Items
 pub mod Charts
 pub mod Grammars
 pub mod Searches
+pub mod Proving

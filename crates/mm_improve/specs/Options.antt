@@ -18,3 +18,14 @@ on f (Some a) = Some (f a)
 abbrev pub first : {A : Type 0} → (A → Bool) → List A → Option A
 first p [] = None
 first p (x ∷ xs) = cond (p x) (Some x) (first p xs)
+
+-- the first option of a list that is there
+abbrev pub first_there : {A : Type 0} → List (Option A) → Option A
+first_there [] = None
+first_there (o ∷ os) = or_else o (first_there os)
+
+-- what all options of a list have; None where one has nothing
+abbrev pub all_there : {A : Type 0} → List (Option A) → Option (List A)
+all_there [] = Some []
+all_there (None ∷ os) = None
+all_there (Some a ∷ os) = on (λ xs. a ∷ xs) (all_there os)

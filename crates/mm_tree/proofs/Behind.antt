@@ -30,7 +30,7 @@ next-value left bytes sigma ns i d symbol value h is stands =
     ∙ ap (pointwise is_same left) (applied-cons sigma (symbol_of bytes (get_or ns i d)) (map (symbol_of bytes) (drop (i + 1) ns))
     ∙ ap (λ v. v ++ applied sigma (map (symbol_of bytes) (drop (i + 1) ns))) (ap (value_of sigma) (sym is) ∙ sym stands))
 
-empty-same : (left : List WSym) → (length left == 0) ≡ pointwise is_same left []
+pub empty-same : (left : List WSym) → (length left == 0) ≡ pointwise is_same left []
 empty-same [] = refl
 empty-same (x ∷ xs) = grind (arith, nat_tests)
 

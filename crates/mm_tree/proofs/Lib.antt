@@ -20,3 +20,5 @@ pub mod RowLemmas
 pub mod BegunLemmas
 pub mod FreshVariables
 pub mod Renewed
+pub mod ReplacingLemmas
+pub mod Refilled

@@ -82,6 +82,18 @@ more-whole v next k new y w p young few low = record {
       last = w.sound.last;
     }
 
+-- another root
+pub root-mean : (v : Versions) (next : ℕ) (y : TimedTree) → IsWhole v next → hand_plain (with_root v y) ≡ mean y (line_of v true)
+root-mean v next y w = ap (λ (x : TimedTree). mean x (line_of v true)) (hand-more v y next w)
+
+pub root-whole : (v : Versions) (next : ℕ) (y : TimedTree) → IsWhole v next → youngest y ≤ hand_length v → count y ≤ most_steps → tall y ≤ most_levels → IsWhole (with_root v y) next
+root-whole v next y w young few low = record {
+  begun_root = w.begun_root;
+  begun_length = w.begun_length;
+  sound = subst (λ (x : TimedTree). IsSound x (hand_length v) next) (sym (hand-more v y next w)) (record { born = young; few = few; low = low; first = w.sound.first; last = w.sound.last });
+  turn = w.turn;
+}
+
 -- one binding more
 pub bound-plain : (v : Versions) (next : ℕ) (theta : Pairs) → HasWorkKeys theta → IsWhole v next → hand_plain (with_binding v theta) ≡ bound theta (hand_plain v)
 bound-plain v next theta keys w = ap (mean (hand_node v)) (line-more v theta) ∙ mean-bind (line_of v true) theta keys (hand_node v) (let b = w.sound.born in omega (arith, length-line v next w))

@@ -204,7 +204,11 @@ below-by : (m n : ℕ) → true ≡ nat_lt m n → m < n
 below-by m n h = grind arith
 
 -- a premise under a substitution, by its place
+premise-by : (f : ℕ → List WSym) (g : List WSym → List WSym) (ids : List ℕ) (i id : ℕ) → i < length ids → id ≡ get_or ids i id → g (f id) ≡ get_or (map g (map f ids)) i []
+premise-by f g ids i id h is = sym (get_or-map g (map f ids) i [] [] (omega (arith, h, length-map ids f)) ∙ ap g (get_or-map f ids i id [] h ∙ ap f (sym is)))
+
 pub premise-at : (f : ℕ → List WSym) (g : List WSym → List WSym) (ids : List ℕ) (i id : ℕ) → true ≡ nat_lt i (length ids) → id ≡ get_or ids i id → g (f id) ≡ get_or (map g (map f ids)) i []
-premise-at f g ids i id e is =
-    let h = below-by i (length ids) e in
-    sym (get_or-map g (map f ids) i [] [] (omega (arith, h, length-map ids f)) ∙ ap g (get_or-map f ids i id [] h ∙ ap f (sym is)))
+premise-at f g ids i id e is = premise-by f g ids i id (below-by i (length ids) e) is
+
+pub premise-read : (f : ℕ → List WSym) (g : List WSym → List WSym) (ids : List ℕ) (i d : ℕ) → i < length ids → g (f (get_or ids i d)) ≡ get_or (map g (map f ids)) i []
+premise-read f g ids i d h = sym (get_or-map g (map f ids) i [] [] (omega (arith, h, length-map ids f)) ∙ ap g (get_or-map f ids i d [] h))

@@ -10,3 +10,4 @@ pub mod Bound
 pub mod Written
 pub mod Floats
 pub mod Labelled
+pub mod Replacing

@@ -17,6 +17,7 @@ mod node;
 mod occurring;
 mod premises;
 mod renewal;
+mod replacing;
 mod rows;
 mod sources;
 #[cfg(test)]
@@ -25,9 +26,10 @@ mod timed;
 mod tree;
 mod writing;
 
-pub use fault::{BindFault, GraftFault, WorkSpent};
+pub use fault::{BindFault, GraftFault, ReplaceFault, WorkSpent};
 pub use fresh::{fresh_from, variables_for};
 pub use labelled::OfLabelsFault;
 pub use premises::premises as hypotheses;
+pub use replacing::MOST_PREMISES;
 pub use std::alloc::AllocError as Memory;
 pub use tree::{MOST_LEVELS, MOST_STEPS, MOST_WORKS, Mark, Tree};

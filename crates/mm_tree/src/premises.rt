@@ -113,7 +113,7 @@ pub fn known_over<L: Ledger>(
 ) -> Result<Rc<Node>, AllocError>
     requires own { id.0 < length (labels_of db.now) }
     requires short { All (λ h. length (applied sigma.now h) ≤ 32768) (premises_of db.now id.0) }
-    requires few { length (premises_of db.now id.0) ≤ 1000000 }
+    requires few { length (premises_of db.now id.0) ≤ 2000000000 }
     ensures node { IfOk result (λ r. r.value ≡ placed_timed birth target.value id.0 sigma.now (premises_of db.now id.0)) }
     ensures cost { steps.new ≤ steps.old + 1 + length (premises_of db.now id.0) }
 {

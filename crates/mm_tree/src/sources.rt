@@ -18,7 +18,7 @@ use mm_subst::{Subst, WStr, WSym, has_work, own_symbol, statement};
 use std::alloc::{AllocError, Global};
 
 /// What is left of a string behind another; `None` where it does not begin with it.
-fn behind<'a>(whole: &'a [WSym], front: &[WSym]) -> Option<&'a [WSym]>
+pub fn behind<'a>(whole: &'a [WSym], front: &[WSym]) -> Option<&'a [WSym]>
     ensures { MatchOption result ((s : List WSym) → pointwise is_same whole.now (front.now ++ s) ≡ false) (λ left. (s : List WSym) → pointwise is_same whole.now (front.now ++ s) ≡ pointwise is_same left.now s) }
 {
     let mut left = whole;

@@ -528,7 +528,7 @@ impl Tree {
     }
 
     /// The string of a step, as it is kept.
-    fn text(&self, step: u32) -> Result<Rc<Text>, AllocError>
+    pub(crate) fn text(&self, step: u32) -> Result<Rc<Text>, AllocError>
         requires { (1 ≤ step) × (step ≤ size_of self.now.proof.plain) }
         ensures now { IfOk result (λ t. text_now (line_of self.now.versions true) t.value ≡ target_of (step_at self.now.proof.plain step)) }
         ensures born { IfOk result (λ t. t.value.birth ≤ hand_length self.now.versions) }
@@ -552,7 +552,7 @@ impl Tree {
     }
 
     /// Appends a binding to those of the drafts.
-    fn add_binding(&mut self, theta: Subst) -> Result<(), AllocError>
+    pub(crate) fn add_binding(&mut self, theta: Subst) -> Result<(), AllocError>
         requires { HasWorkKeys theta }
         ensures ok { OnOk result (self.new.proof ≡ bound_in theta self.old.proof) }
         ensures err { OnErr result (self.new ≡ self.old) }
@@ -562,6 +562,22 @@ impl Tree {
         let drafts = self.draft_bindings.len();
         self.trail.reserve(drafts + 1)?;
         self.draft_bindings.push(theta)?;
+        Ok(())
+    }
+
+    /// Makes a tree the version in hand, as a draft.
+    pub(crate) fn push_root(&mut self, root: Rc<Node>) -> Result<(), AllocError>
+        requires born { youngest root.value ≤ hand_length self.old.versions }
+        requires few { count root.value ≤ 1000000 }
+        requires low { tall root.value ≤ 2000 }
+        ensures ok { OnOk result (self.new.proof ≡ record { plain = mean root.value (line_of self.old.versions true); next = self.old.proof.next }) }
+        ensures err { OnErr result (self.new ≡ self.old) }
+        ensures marks { KeepsMarks self.old.versions self.new.versions }
+        ensures begun { BeginsAlike self.old.versions self.new.versions }
+    {
+        let drafts = self.draft_roots.len();
+        self.roots.reserve(drafts + 1)?;
+        self.draft_roots.push(root)?;
         Ok(())
     }
 

@@ -1,4 +1,4 @@
-use Rattle.std.proofs.Common.{◌≡◌, ◌≤◌, None, length, sym, subst, ◌∙◌}
+use Rattle.std.proofs.Common.{◌≡◌, ◌≤◌, None, length, sym, subst, ◌∙◌, arith}
 use Rattle.std.specs.List.{All}
 use Rattle.mm_subst.specs.Statements.{statement_of}
 use Rattle.mm_subst.specs.Substitutions.{Pairs, applied}
@@ -20,7 +20,7 @@ use Rattle.mm_tree.proofs.Rooms.{same_error}
 use Rattle.mm_edit.proofs.assign_step.name_and_unify.Goals as goal
 
 pub draw-requires-clause-few : goal.draw-requires-clause-few
-draw-requires-clause-few g c = few-premises c.args.db.now c.args.tree.now.proof c.args.step c.args.id.0 c.requires.exists c.requires.unknown c.requires.few
+draw-requires-clause-few g c = omega (arith, few-premises c.args.db.now c.args.tree.now.proof c.args.step c.args.id.0 c.requires.exists c.requires.unknown c.requires.few)
 
 pub returns-in_err-sigma-clause-tried : goal.returns-in_err-sigma-clause-tried
 returns-in_err-sigma-clause-tried g c =
