@@ -14,6 +14,7 @@ ghost use Rattle.mm_edit_commands.specs.Ending.{EndsEdit};
 
 use crate::assign::assign;
 use crate::delete::{delete_all, delete_floats, delete_step};
+use crate::improve::{improve_all, improve_step};
 use crate::initialize::{initialize_all, initialize_step};
 use crate::let_text::{let_step, let_variable};
 use crate::replace::replace;
@@ -75,7 +76,9 @@ fn is_built(command: Command<'_>) -> bool
         | Command::InitializeAll
         | Command::DeleteStep { .. }
         | Command::DeleteAll
-        | Command::DeleteFloats => true,
+        | Command::DeleteFloats
+        | Command::Improve { .. }
+        | Command::ImproveAll { .. } => true,
         _ => false,
     }
 }
@@ -224,6 +227,31 @@ fn edit_tree<'a, L: Ledger>(
         }
         Command::DeleteAll => delete_all(alloc, settings, database, theorem, tree, steps),
         Command::DeleteFloats => delete_floats(alloc, settings, database, theorem, tree, steps),
+        Command::Improve {
+            step,
+            depth,
+            no_distinct,
+        } => improve_step(
+            alloc,
+            settings,
+            database,
+            theorem,
+            tree,
+            step,
+            depth,
+            no_distinct,
+            steps,
+        ),
+        Command::ImproveAll { depth, no_distinct } => improve_all(
+            alloc,
+            settings,
+            database,
+            theorem,
+            tree,
+            depth,
+            no_distinct,
+            steps,
+        ),
         _ => Err(Refusal::NotBuilt),
     }
 }
