@@ -26,5 +26,6 @@ pub mod Limited
 pub mod ActiveKinds
 pub mod Unfolding
 pub mod Kids
+pub mod Leading
 pub mod TraceLemmas
 pub mod TraceSteps

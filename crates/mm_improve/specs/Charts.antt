@@ -5,7 +5,7 @@ use Rattle.mm_improve.specs.declared.table.Part.{Part}
 use Rattle.mm_improve.specs.Options.{is_there, on, first}
 use Rattle.mm_improve.specs.declared.grammar.Item.{Item}
 use Rattle.mm_improve.specs.declared.grammar.Item.TheVariants.{Fixed, Again, New}
-use Rattle.mm_improve.specs.Items.{Goal, Hypothesis, Assertion, Grammar, Use, Chosen, by_use, hypothesis, chosen, serves, IsAnswer, matches, uses, uses_of}
+use Rattle.mm_improve.specs.Items.{Goal, Hypothesis, Assertion, Grammar, Use, Chosen, by_use, hypothesis, chosen, serves, IsAnswer, matches, may_lead, uses, uses_of}
 use Rattle.mm_unify.specs.Parts.{part}
 use Rattle.mm_subst.specs.declared.symbol.WSym.{WSym}
 use Rattle.mm_subst.specs.declared.symbol.WSym.TheVariants.{Const}
@@ -213,3 +213,7 @@ EndsOutside at last end count = (at + count ≤ last) ⊎ (end ≤ at + count)
 -- the cells of a row after one and before another get no entry
 abbrev pub AreIdle : Grammar → List WSym → Rows → ℕ → ℕ → ℕ → Type 0
 AreIdle G t rows at last end = (to : ℕ) → last < to → to < end → to ≤ length t → Settles G t rows at to None
+
+-- the table has the answers for the goals that may lead to one with a typecode
+abbrev pub AreAnswersFor : Grammar → WSym → List WSym → Rows → Type 0
+AreAnswersFor G goal t rows = (i j : ℕ) (code : WSym) → may_lead G goal code ≡ true → i < j → j ≤ length t → IsAnswer G (code, part t i j) (on (meaning t) (entry_at rows i code j))

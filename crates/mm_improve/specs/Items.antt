@@ -1,6 +1,6 @@
 -- Conclusions as what is searched for: matches with the parts of a string, and the chosen proof by them.
-use Rattle.std.specs.Prelude.{ℕ, zero, suc, ◌≡◌, Bool, ◌&&◌, not, List, [], ◌∷◌, ◌++◌, take, drop, length, map, Option, Some, None, slice_index_or, cond, nat_le}
-use Rattle.std.specs.List.{flat_map, list_all}
+use Rattle.std.specs.Prelude.{ℕ, zero, suc, ◌≡◌, Bool, ◌&&◌, ◌||◌, not, List, [], ◌∷◌, ◌++◌, take, drop, length, map, Option, Some, None, slice_index_or, cond, nat_le}
+use Rattle.std.specs.List.{flat_map, list_all, list_any}
 use Rattle.std.specs.Cmp.Lexicographic.{pointwise}
 use Rattle.mm_subst.specs.declared.symbol.WSym.{WSym}
 use Rattle.mm_subst.specs.declared.symbol.WSym.TheVariants.{Const}
@@ -113,3 +113,20 @@ limited r (Some c) = cond (nat_le c.rank r) (Some c) None
 -- the chosen proof, which the goal has from its rank on; or the goal has none at any rank
 abbrev pub IsAnswer : Grammar → Goal → Option Chosen → Type 0
 IsAnswer G g answer = (r : ℕ) → chosen G r g ≡ limited r answer
+
+-- ## Typecodes
+
+-- the typecode of a first occurrence
+abbrev pub new_codes : List Item → List WSym
+new_codes [] = []
+new_codes (Fixed c ∷ items) = new_codes items
+new_codes (Again k ∷ items) = new_codes items
+new_codes (New code ∷ items) = code ∷ new_codes items
+
+-- those of the variables of all assertions
+abbrev pub part_codes : Grammar → List WSym
+part_codes G = flat_map (λ a. new_codes a.items) G.assertions
+
+-- whether a goal on the way to one with the first typecode may have the second: it is the same, or that of a variable
+abbrev pub may_lead : Grammar → WSym → WSym → Bool
+may_lead G code part = is_same part code || list_any (is_same part) (part_codes G)

@@ -7,3 +7,5 @@ pub mod Grammars
 pub mod Searches
 pub mod Proving
 pub mod Traces
+pub mod Laying
+pub mod Proofs

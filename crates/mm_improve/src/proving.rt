@@ -1,42 +1,67 @@
 //! The proof of a goal.
 
-ghost use Rattle.std.specs.Prelude.{◌≡◌, ◌<◌, IfOk, IfSome, length};
-ghost use Rattle.mm_scope.specs.Contents.{labels_of};
+ghost use Rattle.std.specs.Prelude.{◌≡◌, ◌<◌, false, IfOk, IfSome, length};
+ghost use Rattle.mm_scope.specs.Contents.{labels_of, stated_at};
+ghost use Rattle.mm_stated.specs.Stated.{is_hypothesis};
 ghost use Rattle.mm_plain.specs.Valid.{IsString, IsValid, first_setting};
+ghost use Rattle.mm_tree.specs.Versions.{HasNoDrafts};
+ghost use Rattle.mm_improve.specs.Laying.{IsReady};
 ghost use Rattle.mm_improve.specs.Proving.{IsFound, proof_of};
+ghost use Rattle.mm_improve.specs.Searches.{terms};
 
+use crate::database::Search;
 use crate::fault::ImproveFault;
+use crate::prover::Prover;
 use mm_base::Steps;
-use mm_scope::{Database, StmtId};
+use mm_scope::Database;
 use mm_subst::WStr;
 use mm_tree::Tree;
-use mm_unify::Rule;
 use std::alloc::Global;
 use std::sync::ledger::Ledger;
 
-/// The proof of a goal at a depth, where there is one.
+impl Prover {
+    /// The proof of a goal without work variables at a depth, where there is one. No work variable is drawn over it.
+    ///
+    /// # Errors
+    /// `TooManySteps` where it has more than 1,000,000 steps, or else `TooDeep` where it has more than 2,000 levels.
+    pub fn prove<L: Ledger>(
+        &self,
+        alloc: Global,
+        db: &Database,
+        goal: &WStr,
+        depth: u32,
+        steps: &mut Steps<L>,
+    ) -> Result<Option<Tree>, ImproveFault>
+        requires ready { IsReady db.now self.now }
+        requires string { IsString (first_setting db.now self.now.search.at.0) goal.now }
+        ensures found { IsFound result (proof_of (terms db.now self.now.search) depth goal.now) }
+        ensures valid { IfOk result (λ o. IfSome o (λ t. IsValid db.now self.now.search.at.0 goal.now t.proof)) }
+        ensures settled { IfOk result (λ o. IfSome o (λ t. HasNoDrafts t.versions)) }
+    {
+        let _ = alloc;
+        let _ = db;
+        let _ = goal;
+        let _ = depth;
+        let _ = steps;
+        Err(ImproveFault::Memory)
+    }
+}
+
+/// The proof of a goal without work variables at a depth, where there is one. For many goals make a `Prover` once.
 pub fn prove_goal<L: Ledger>(
     alloc: Global,
     db: &Database,
-    at: StmtId,
+    search: Search,
     goal: &WStr,
     depth: u32,
-    no_distinct: bool,
-    rule: Rule,
     steps: &mut Steps<L>,
 ) -> Result<Option<Tree>, ImproveFault>
-    requires at { at.0 < length (labels_of db.now) }
-    requires string { IsString (first_setting db.now at.0) goal.now }
-    ensures found { IsFound result (proof_of (record { bytes = db.now; at = at.0; no_distinct = no_distinct; rule = rule }) depth goal.now) }
-    ensures valid { IfOk result (λ o. IfSome o (λ t. IsValid db.now at.0 goal.now t.proof)) }
+    requires own { search.at.0 < length (labels_of db.now) }
+    requires assertion { is_hypothesis (stated_at db.now search.at.0).kind ≡ false }
+    requires string { IsString (first_setting db.now search.at.0) goal.now }
+    ensures found { IsFound result (proof_of (terms db.now search) depth goal.now) }
+    ensures valid { IfOk result (λ o. IfSome o (λ t. IsValid db.now search.at.0 goal.now t.proof)) }
 {
-    let _ = alloc;
-    let _ = db;
-    let _ = at;
-    let _ = goal;
-    let _ = depth;
-    let _ = no_distinct;
-    let _ = rule;
-    let _ = steps;
-    Err(ImproveFault::Memory)
+    let prover = Prover::new(alloc, db, search)?;
+    prover.prove(alloc, db, goal, depth, steps)
 }

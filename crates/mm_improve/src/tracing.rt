@@ -1,10 +1,11 @@
 //! The steps of a chosen proof, read off the table.
 
-ghost use Rattle.std.specs.Prelude.{◌≡◌, ◌<◌, ◌≤◌, ◌++◌, ◌∷◌, [], ℕ, map, length, IfOk, slice_index_or};
+ghost use Rattle.std.specs.Prelude.{◌≡◌, ◌<◌, ◌≤◌, ◌++◌, ◌∷◌, [], ℕ, true, map, length, IfOk, slice_index_or};
 ghost use Rattle.mm_scope.specs.Contents.{labels_of};
 ghost use Rattle.mm_plain.specs.Premises.{variables_for};
-ghost use Rattle.mm_improve.specs.Charts.{AreAnswers, ArePlaced};
+ghost use Rattle.mm_improve.specs.Charts.{AreAnswersFor, ArePlaced};
 ghost use Rattle.mm_improve.specs.Grammars.{grammar_of, order_for, place, place_or_none};
+ghost use Rattle.mm_improve.specs.Items.{may_lead};
 ghost use Rattle.mm_improve.specs.Proving.{rank_limit};
 ghost use Rattle.mm_improve.specs.Searches.{terms};
 ghost use Rattle.mm_improve.specs.Traces.{IsOver, IsRanked, IsTraced, kids_of, no_part, whole};
@@ -87,6 +88,7 @@ fn step_down(
     alloc: Global,
     db: &Database,
     search: Search,
+    goal: WSym,
     text: &[WSym],
     rows: &Rows,
     part: Part,
@@ -95,12 +97,14 @@ fn step_down(
     requires own { search.at.0 < length (labels_of db.now) }
     requires ordered { part.from < part.to }
     requires within { part.to ≤ length text.now }
-    requires answers { AreAnswers (grammar_of (terms db.now search)) text.now rows.now }
+    requires leads { may_lead (grammar_of (terms db.now search)) goal part.code ≡ true }
+    requires answers { AreAnswersFor (grammar_of (terms db.now search)) goal text.now rows.now }
     requires placed { ArePlaced text.now rows.now }
-    ensures { IfOk result (λ _. (r : ℕ) → IsRanked (terms db.now search) r text.now part → IsOver (terms db.now search) r text.now part stack.old.items stack.new.items) }
+    ensures { IfOk result (λ _. (r : ℕ) → IsRanked (terms db.now search) r goal text.now part → IsOver (terms db.now search) r goal text.now part stack.old.items stack.new.items) }
 {
     mandatory_variables_differ(db.bytes());
     let _ = search;
+    let _ = goal;
     let _ = text;
     match rows.find(part.from, part.code, part.to) {
         Some(entry) => push_kids(alloc, db, entry, stack),
@@ -144,9 +148,9 @@ pub fn steps_back(
     rows: &Rows,
 ) -> Result<Trace, ImproveFault>
     requires own { search.at.0 < length (labels_of db.now) }
-    requires answers { AreAnswers (grammar_of (terms db.now search)) text.now rows.now }
+    requires answers { AreAnswersFor (grammar_of (terms db.now search)) code text.now rows.now }
     requires placed { ArePlaced text.now rows.now }
-    requires ranked { IsRanked (terms db.now search) (rank_limit db.now (code ∷ text.now)) text.now (whole code text.now) }
+    requires ranked { IsRanked (terms db.now search) (rank_limit db.now (code ∷ text.now)) code text.now (whole code text.now) }
     ensures { IsTraced (terms db.now search) (rank_limit db.now (code ∷ text.now)) text.now (whole code text.now) result }
 {
     let mut parts = Vec::new(alloc);
@@ -161,7 +165,7 @@ pub fn steps_back(
         let Some(part) = stack.pop() else {
             return Ok(Trace { parts });
         };
-        step_down(alloc, db, search, text, rows, part, &mut stack)?;
+        step_down(alloc, db, search, code, text, rows, part, &mut stack)?;
         append(&mut parts, part)?;
     }
     if stack.is_empty() {

@@ -8,12 +8,12 @@ use Rattle.mm_improve.proofs.tracing.step_down.Goals as goal
 pub push_kids-requires : goal.push_kids-requires
 push_kids-requires c =
     let differ = subst VariablesDiffer c.bytes.ensures.value c.mandatory_variables_differ.ensures in
-    λ l. own_entry (terms c.args.db.now c.args.search) differ c.requires.own c.args.text.now c.args.rows.now c.requires.answers c.requires.placed c.args.part c.in-Some.entry.now c.in-Some.ensures c.requires.ordered c.requires.within l
+    λ l. own_entry (terms c.args.db.now c.args.search) differ c.requires.own c.args.goal c.args.text.now c.args.rows.now c.requires.answers c.requires.placed c.args.part c.in-Some.entry.now c.in-Some.ensures c.requires.leads c.requires.ordered c.requires.within l
 
 pub returns-in-Some : goal.returns-in-Some
 returns-in-Some c =
     let differ = subst VariablesDiffer c.bytes.ensures.value c.mandatory_variables_differ.ensures in
-    if_ok c.push_kids.result c.push_kids.ensures (λ a. over (terms c.args.db.now c.args.search) differ c.requires.own c.args.text.now c.args.rows.now c.requires.answers c.requires.placed c.args.part c.in-Some.entry.now c.in-Some.ensures c.args.stack.now.items c.push_kids.new.stack.items a)
+    if_ok c.push_kids.result c.push_kids.ensures (λ a. over (terms c.args.db.now c.args.search) differ c.requires.own c.args.goal c.args.text.now c.args.rows.now c.requires.answers c.requires.placed c.args.part c.in-Some.entry.now c.in-Some.ensures c.args.stack.now.items c.push_kids.new.stack.items a)
   where
     if_ok : {A E : Type 0} {P Q : Type 0} (x : Result A E) → IfOk x (λ _. P) → (P → Q) → IfOk x (λ _. Q)
     if_ok (Ok a) h f = f h
@@ -22,4 +22,4 @@ returns-in-Some c =
 pub returns-in-None : goal.returns-in-None
 returns-in-None c =
     let differ = subst VariablesDiffer c.bytes.ensures.value c.mandatory_variables_differ.ensures in
-    λ r h. absurd (missing (terms c.args.db.now c.args.search) differ c.requires.own c.args.text.now c.args.rows.now c.requires.answers c.requires.placed c.args.part c.in-None.ensures r h)
+    λ r h. absurd (missing (terms c.args.db.now c.args.search) differ c.requires.own c.args.goal c.args.text.now c.args.rows.now c.requires.answers c.requires.placed c.args.part c.in-None.ensures r h)
