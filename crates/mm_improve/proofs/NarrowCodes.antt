@@ -7,6 +7,7 @@ use Rattle.mm_stated.specs.Stated.{Stated, typecode_of, is_hypothesis}
 use Rattle.mm_subst.specs.declared.symbol.WSym.{WSym}
 use Rattle.mm_subst.specs.declared.symbol.WSym.TheVariants.{Const, Var, Work}
 use Rattle.mm_subst.specs.Statements.{statement_of}
+use Rattle.mm_unify.specs.Parts.{part}
 use Rattle.mm_unify.proofs.Sorted.{Among, among_all, among_at, among_mapped}
 use Rattle.mm_plain.specs.Premises.{premises_of, variables_for}
 use Rattle.mm_improve.specs.declared.grammar.Item.{Item}
@@ -14,6 +15,7 @@ use Rattle.mm_improve.specs.declared.grammar.Item.TheVariants.{Fixed, Again, New
 use Rattle.mm_improve.specs.Assertions.{Terms, has_essential, plain_assertions}
 use Rattle.mm_improve.specs.Items.{Assertion, Grammar, new_codes, part_codes}
 use Rattle.mm_improve.specs.Grammars.{assertion_of, codes_for, grammar_of, item_of, items_of, place, seen_with, split, variable_item}
+use Rattle.mm_improve.specs.Charts.{Rows, AreAnswers, AreAnswersFor}
 use Rattle.mm_improve.specs.Narrow.{IsEnough, is_float_code, is_taken, narrowed}
 use Rattle.mm_improve.proofs.Agreeing.{plain_usable}
 use Rattle.mm_improve.proofs.Narrowing.{is_enough}
@@ -80,3 +82,7 @@ filter_all p (x ∷ xs) h = ap (λ (b : Bool). cond b (x ∷ filter p xs) (filte
 -- where all typecodes are taken the grammar is as it was
 pub all_taken : (bytes : List ℕ) (G : Grammar) → narrowed (is_taken bytes false) G ≡ G
 all_taken bytes G = ap (λ (xs : List Assertion). record { hypotheses = G.hypotheses; assertions = xs; brackets = G.brackets; groups = G.groups }) (filter_all (λ (a : Assertion). is_taken bytes false a.code) G.assertions (λ a. refl))
+
+-- the table of a grammar that is enough has the answers
+pub answers_enough : (G : Grammar) (code : WSym) (H : Grammar) (t : List WSym) (rows : Rows) → IsEnough G code H → AreAnswers H t rows → AreAnswersFor G code t rows
+answers_enough G code H t rows e h i j k m l w r = sym (e r (k, part t i j) m) ∙ h i j k l w r
