@@ -29,3 +29,7 @@ pub mod Kids
 pub mod Leading
 pub mod TraceLemmas
 pub mod TraceSteps
+pub mod ProofUses
+pub mod ProofSteps
+pub mod ProofTrees
+pub mod FindsProofs

@@ -55,11 +55,11 @@ some_there None h = absurd (false≢true h)
 some_there (Some a) h = (a, refl)
 
 module _ (c : Terms) where
-  at-zero : (g : List WSym) → chosen c 0 g ≡ unless_long g (on (at_rank 0) (hypothesis c g))
+  pub at-zero : (g : List WSym) → chosen c 0 g ≡ unless_long g (on (at_rank 0) (hypothesis c g))
   unfolding chosen
   at-zero g = refl
 
-  at-suc : (r : ℕ) (g : List WSym) → chosen c (suc r) g ≡ unless_long g (or_else (chosen c r g) (on (at_rank (suc r)) (first (serves c (chosen c r)) (uses c g))))
+  pub at-suc : (r : ℕ) (g : List WSym) → chosen c (suc r) g ≡ unless_long g (or_else (chosen c r g) (on (at_rank (suc r)) (first (serves c (chosen c r)) (uses c g))))
   unfolding chosen
   at-suc r g = refl
 
@@ -71,7 +71,7 @@ module _ (c : Terms) where
   unfolding tree
   tree-suc r g = refl
 
-  short_of : (g : List WSym) (o : Option Chosen) (x : Chosen) → unless_long g o ≡ Some x → (is_long g ≡ false) × (o ≡ Some x)
+  pub short_of : (g : List WSym) (o : Option Chosen) (x : Chosen) → unless_long g o ≡ Some x → (is_long g ≡ false) × (o ≡ Some x)
   short_of g o x h = by (is_long g) refl h
     where
       by : (b : Bool) → is_long g ≡ b → (if b then None else o) ≡ Some x → (is_long g ≡ false) × (o ≡ Some x)
@@ -81,7 +81,7 @@ module _ (c : Terms) where
   not_long : (g : List WSym) (o : Option Chosen) → is_long g ≡ false → unless_long g o ≡ o
   not_long g o e = ap (λ (b : Bool). if b then None else o) e
 
-  is_short : (r : ℕ) (g : List WSym) (x : Chosen) → chosen c r g ≡ Some x → is_long g ≡ false
+  pub is_short : (r : ℕ) (g : List WSym) (x : Chosen) → chosen c r g ≡ Some x → is_long g ≡ false
   is_short zero g x h = (short_of g _ x (sym (at-zero g) ∙ h)).0
   is_short (suc r) g x h = (short_of g _ x (sym (at-suc r g) ∙ h)).0
 
@@ -133,10 +133,10 @@ module _ (c : Terms) where
   parts_there zero g x h = subst (AllThere zero) (sym (no_parts g x h)) tt
   parts_there (suc r) g x h = all_weaker (λ p. is_there (chosen c r p) ≡ true) (λ p. is_there (chosen c (suc r) p) ≡ true) (there_stays r) (parts_of x) (served r g x h)
 
-  tree-at-zero : (g : List WSym) (x : Chosen) → chosen c 0 g ≡ Some x → tree c 0 g ≡ known g x.use_.id x.use_.sigma []
+  pub tree-at-zero : (g : List WSym) (x : Chosen) → chosen c 0 g ≡ Some x → tree c 0 g ≡ known g x.use_.id x.use_.sigma []
   tree-at-zero g x h = tree-zero g ∙ ap (grown c.bytes unknown g) h ∙ ap (λ ps. known g x.use_.id x.use_.sigma (map unknown ps)) (no_parts g x h)
 
-  tree-at-suc : (r : ℕ) (g : List WSym) (x : Chosen) → chosen c (suc r) g ≡ Some x → tree c (suc r) g ≡ known g x.use_.id x.use_.sigma (map (tree c r) (parts_of x))
+  pub tree-at-suc : (r : ℕ) (g : List WSym) (x : Chosen) → chosen c (suc r) g ≡ Some x → tree c (suc r) g ≡ known g x.use_.id x.use_.sigma (map (tree c r) (parts_of x))
   tree-at-suc r g x h = tree-suc r g ∙ ap (grown c.bytes (tree c r) g) h
 
   -- the tree of a goal that has a rank is the same from then on
