@@ -1,5 +1,5 @@
 -- For each database what is found for a string is a proof of it.
-use Rattle.std.proofs.Common.{◌≡◌, ◌<◌, ℕ, List, length, sym, subst}
+use Rattle.std.proofs.Common.{◌<◌, ℕ, List, length, sym, subst}
 use Rattle.mm_scope.specs.Contents.{labels_of}
 use Rattle.mm_plain.specs.Valid.{IsString, first_setting}
 use Rattle.mm_improve.specs.Proofs.{IsProofFor, FindsProofs}

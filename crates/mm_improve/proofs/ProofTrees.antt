@@ -11,7 +11,7 @@ use Rattle.mm_subst.specs.Applied.{most_symbols}
 use Rattle.mm_subst.specs.declared.symbol.WSym.{WSym}
 use Rattle.mm_subst.specs.declared.symbol.WSym.TheVariants.{Var}
 use Rattle.mm_subst.specs.Statements.{statement_of}
-use Rattle.mm_subst.specs.Substitutions.{Pairs, value_of, applied}
+use Rattle.mm_subst.specs.Substitutions.{value_of, applied}
 use Rattle.mm_subst.specs.Symbols.{is_same}
 use Rattle.mm_subst.proofs.Replaced.{applied-empty}
 use Rattle.mm_unify.proofs.Sorted.{Among, among_all, among_either, among_mapped, among_filtered}
@@ -26,7 +26,7 @@ use Rattle.mm_sound.specs.Apart.{AreParted}
 use Rattle.mm_sound.proofs.Paired.{is_key, pairs_among_keys}
 use Rattle.mm_improve.specs.Options.{is_there, or_else, on, first, first_there, all_there}
 use Rattle.mm_improve.specs.Assertions.{Terms, may_be_used, has_essential, plain_assertions, matches, parts}
-use Rattle.mm_improve.specs.Ranks.{Use, Chosen, at_rank, hypothesis, uses, serves, chosen, tree}
+use Rattle.mm_improve.specs.Ranks.{Use, Chosen, at_rank, uses, serves, chosen, tree}
 use Rattle.mm_improve.specs.Proving.{rank_limit, chosen_tree, essential_assertions, essential_uses, premise_proof, proof_by, proof_of}
 use Rattle.mm_improve.specs.Proofs.{IsProofFor}
 use Rattle.mm_improve.proofs.ActiveKinds.{active_are_hypotheses}

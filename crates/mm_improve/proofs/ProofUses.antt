@@ -1,5 +1,5 @@
 -- The matches of a string with an assertion: what a step by one of them names.
-use Rattle.std.proofs.Common.{◌≡◌, ◌≤◌, ◌<◌, ◌==◌, ◌||◌, ℕ, Bool, true, false, List, [], ◌∷◌, ◌++◌, All, Option, None, Some, length, map, nat_lt, ◌+◌, slice_get, get_or, refl, sym, ◌∙◌, ap, arith, inl, inr, ◌⊎◌, subst, length-append, eqb-true, if◌then◌else◌}
+use Rattle.std.proofs.Common.{◌≡◌, ◌≤◌, ◌==◌, ◌||◌, ℕ, Bool, true, false, List, [], ◌∷◌, ◌++◌, All, Option, None, Some, length, map, nat_lt, ◌+◌, slice_get, get_or, refl, sym, ◌∙◌, ap, arith, inl, inr, subst, length-append, eqb-true, if◌then◌else◌}
 use Rattle.std.specs.List.{list_all, list_any, cons_option, AllByRecursion}
 use Rattle.std.proofs.lemmas.Bool.{cases_lt, and_parts, false≢true, true≢false, lt-ltb}
 use Rattle.std.proofs.lemmas.Option.{none-some}
@@ -14,7 +14,7 @@ use Rattle.mm_stated.specs.declared.statement.Kind.TheVariants as kind
 use Rattle.mm_subst.specs.declared.symbol.WSym.{WSym}
 use Rattle.mm_subst.specs.declared.symbol.WSym.TheVariants.{Const, Var, Work}
 use Rattle.mm_subst.specs.Statements.{symbol_of, statement_of}
-use Rattle.mm_subst.specs.Substitutions.{Pairs, HasDistinctKeys, value_at, value_of, applied, with_values}
+use Rattle.mm_subst.specs.Substitutions.{Pairs, HasDistinctKeys, value_at, value_of, applied}
 use Rattle.mm_subst.specs.Symbols.{is_same, is_work, has_work}
 use Rattle.mm_subst.proofs.Keys.{is_same-true, is_same-itself, HasDistinctKeys-with_values, keys-with_values}
 use Rattle.mm_subst.proofs.Replaced.{applied-cons, value_of-some}
@@ -31,7 +31,7 @@ use Rattle.mm_plain.proofs.Forms.{formed, no_other}
 use Rattle.mm_plain.proofs.Fresh.{keys-fresh}
 use Rattle.mm_plain.proofs.Works.{applied-plain, statement-with_values}
 use Rattle.mm_sound.specs.Apart.{variables_in, AreParted}
-use Rattle.mm_improve.specs.Assertions.{Terms, if_variable, are_parted, are_apart, are_concluded, pattern, sigma_by, matches}
+use Rattle.mm_improve.specs.Assertions.{Terms, if_variable, are_parted, are_apart, pattern, sigma_by, matches}
 use Rattle.mm_improve.specs.Ranks.{Use}
 use Rattle.mm_improve.proofs.Agreeing.{IsUsable, VariablesDiffer}
 

@@ -1,15 +1,14 @@
 -- The tree of a chosen proof is a step over the trees of its parts.
-use Rattle.std.proofs.Common.{◌≡◌, ◌≤◌, ◌<◌, ℕ, zero, suc, Bool, true, false, cond, ◌&&◌, List, [], ◌∷◌, Option, None, Some, map, refl, sym, ◌∙◌, ap, arith, inl, inr, subst, if◌then◌else◌}
+use Rattle.std.proofs.Common.{◌≡◌, ℕ, zero, suc, Bool, true, false, cond, List, [], ◌∷◌, Option, None, Some, map, refl, sym, ◌∙◌, ap, subst, if◌then◌else◌}
 use Rattle.std.specs.List.{list_all, AllByRecursion}
 use Rattle.std.specs.Cmp.Lexicographic.{pointwise}
-use Rattle.std.proofs.lemmas.Bool.{cases_Bool, and_parts, false≢true, true≢false}
+use Rattle.std.proofs.lemmas.Bool.{and_parts, false≢true}
 use Rattle.mm_scope.specs.Contents.{stated_at, active_at}
 use Rattle.mm_stated.specs.Stated.{is_hypothesis}
 use Rattle.mm_subst.specs.declared.symbol.WSym.{WSym}
-use Rattle.mm_subst.specs.Substitutions.{Pairs, applied}
+use Rattle.mm_subst.specs.Substitutions.{applied}
 use Rattle.mm_subst.specs.Statements.{statement_of}
 use Rattle.mm_subst.specs.Symbols.{is_same}
-use Rattle.mm_plain.specs.declared.plain.Plain.{Plain}
 use Rattle.mm_plain.specs.Lengths.{is_long}
 use Rattle.mm_plain.specs.Premises.{premises_of}
 use Rattle.mm_plain.specs.Shape.{known, unknown}
