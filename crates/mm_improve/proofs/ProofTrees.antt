@@ -32,9 +32,9 @@ use Rattle.mm_improve.specs.Proofs.{IsProofFor}
 use Rattle.mm_improve.proofs.ActiveKinds.{active_are_hypotheses}
 use Rattle.mm_improve.proofs.Agreeing.{IsUsable, VariablesDiffer, usable, plain_usable}
 use Rattle.mm_improve.proofs.ProofSteps.{IsProof, step_proves}
-use Rattle.mm_improve.proofs.ProofUses.{IsUse, all_weaker, match_is_use}
+use Rattle.mm_improve.proofs.ProofUses.{IsUse, match_is_use}
 use Rattle.mm_improve.proofs.Symbols.{same_strings}
-use Rattle.mm_improve.proofs.Unfolding.{at-zero, at-suc, short_of, is_short, some_there, no_parts, served, tree-at-zero, tree-at-suc}
+use Rattle.mm_improve.proofs.Unfolding.{all_weaker, at-zero, at-suc, short_of, is_short, some_there, no_parts, served, tree-at-zero, tree-at-suc}
 
 -- ## Lists
 

@@ -34,20 +34,13 @@ use Rattle.mm_sound.specs.Apart.{variables_in, AreParted}
 use Rattle.mm_improve.specs.Assertions.{Terms, if_variable, are_parted, are_apart, pattern, sigma_by, matches}
 use Rattle.mm_improve.specs.Ranks.{Use}
 use Rattle.mm_improve.proofs.Agreeing.{IsUsable, VariablesDiffer}
-
-pub all_true : {X : Type 0} (p : X → Bool) (xs : List X) → list_all p xs ≡ true → AllByRecursion (λ x. p x ≡ true) xs
-all_true p [] h = tt
-all_true p (x ∷ xs) h = let w = and_parts (p x) (list_all p xs) h in (w.0, all_true p xs w.1)
-
-pub all_weaker : {X : Type 0} (P Q : X → Type 0) → ((x : X) → P x → Q x) → (xs : List X) → AllByRecursion P xs → AllByRecursion Q xs
-all_weaker P Q f [] h = tt
-all_weaker P Q f (x ∷ xs) h = (f x h.0, all_weaker P Q f xs h.1)
+use Rattle.mm_improve.proofs.Unfolding.{all_true, all_weaker}
 
 each_among : {X : Type 0} (P : X → Type 0) (xs : List X) → ((x : X) → Among x xs → P x) → AllByRecursion P xs
 each_among P [] f = tt
 each_among P (x ∷ xs) f = (f x (inl refl), each_among P xs (λ y a. f y (inr a)))
 
-pub any_among : (v : ℕ) (ns : List ℕ) → list_any (λ n. v == n) ns ≡ true → Among v ns
+any_among : (v : ℕ) (ns : List ℕ) → list_any (λ n. v == n) ns ≡ true → Among v ns
 any_among v [] h = absurd (false≢true h)
 any_among v (n ∷ ns) h = by (v == n) refl h (any_among v ns)
   where
@@ -236,12 +229,12 @@ use_by_unifier c differ g id u usable string solves apart =
         stands = may_name c id usable;
         keys = keys;
         values = All-from_recursion (λ (p : WSym × List WSym). IsString S p.1) sigma (each_among (λ (p : WSym × List WSym). IsString S p.1) sigma (λ p a.
-        let key : Among p.0 (map Var vs) = subst (Among p.0) keys (among_map (λ (q : WSym × List WSym). q.0) p sigma a) in
-        let v = among_mapped Var p.0 vs key in
-        let there : Among (Var v.0) (statement_of c.bytes id) = in_statement c.bytes id v.0 (among_all (λ v. is_variable_of c.bytes v ≡ true) vs varies v.0 v.1)
-        (among_all (λ v. list_any (λ n. v == n) (stated_at c.bytes id).symbols ≡ true) vs concluded v.0 v.1) in
-        let own : value_of sigma (Var v.0) ≡ p.1 = ap (value_of sigma) (sym v.2) ∙ value_of-some sigma p.0 p.1 (own_value sigma distinct p a) in
-        subst (IsString S) own (value_string S sigma (statement_of c.bytes id) (Var v.0) there source)));
+            let key : Among p.0 (map Var vs) = subst (Among p.0) keys (among_map (λ (q : WSym × List WSym). q.0) p sigma a) in
+            let v = among_mapped Var p.0 vs key in
+            let there : Among (Var v.0) (statement_of c.bytes id) = in_statement c.bytes id v.0 (among_all (λ v. is_variable_of c.bytes v ≡ true) vs varies v.0 v.1)
+            (among_all (λ v. list_any (λ n. v == n) (stated_at c.bytes id).symbols ≡ true) vs concluded v.0 v.1) in
+            let own : value_of sigma (Var v.0) ≡ p.1 = ap (value_of sigma) (sym v.2) ∙ value_of-some sigma p.0 p.1 (own_value sigma distinct p a) in
+            subst (IsString S) own (value_string S sigma (statement_of c.bytes id) (Var v.0) there source)));
         source = source;
       };
       source = is;

@@ -37,7 +37,7 @@ first_passes p (y ∷ xs) x e = by (p y) refl e (λ z. first_passes p xs x z)
     by true q e f = ap p (let z : x ≡ y = cc in z) ∙ q
     by false q e f = f e
 
-all_true : {X : Type 0} (p : X → Bool) (xs : List X) → list_all p xs ≡ true → AllByRecursion (λ x. p x ≡ true) xs
+pub all_true : {X : Type 0} (p : X → Bool) (xs : List X) → list_all p xs ≡ true → AllByRecursion (λ x. p x ≡ true) xs
 all_true p [] h = tt
 all_true p (x ∷ xs) h = let w = and_parts (p x) (list_all p xs) h in (w.0, all_true p xs w.1)
 
@@ -45,7 +45,7 @@ pub same_on : {X Y : Type 0} (f g : X → Y) (P : X → Type 0) → ((x : X) →
 same_on f g P e [] h = refl
 same_on f g P e (x ∷ xs) h = ap (λ y. y ∷ map f xs) (e x h.0) ∙ ap (λ ys. g x ∷ ys) (same_on f g P e xs h.1)
 
-all_weaker : {X : Type 0} (P Q : X → Type 0) → ((x : X) → P x → Q x) → (xs : List X) → AllByRecursion P xs → AllByRecursion Q xs
+pub all_weaker : {X : Type 0} (P Q : X → Type 0) → ((x : X) → P x → Q x) → (xs : List X) → AllByRecursion P xs → AllByRecursion Q xs
 all_weaker P Q f [] h = tt
 all_weaker P Q f (x ∷ xs) h = (f x h.0, all_weaker P Q f xs h.1)
 
