@@ -31,3 +31,7 @@ pub mod Narrowing
 pub mod NarrowCodes
 pub mod TraceLemmas
 pub mod TraceSteps
+pub mod ProofUses
+pub mod ProofSteps
+pub mod ProofTrees
+pub mod FindsProofs
