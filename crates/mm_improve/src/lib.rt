@@ -21,7 +21,7 @@ pub use database::{Search, rules};
 pub use fault::ImproveFault;
 pub use filling::{chart, chosen_proof};
 pub use grammar::{Hypothesis, Item, Pattern, Rules};
-pub use laws::{answers_agree, found_proofs_are_proofs, ranks_are_limited, trees_unfold};
+pub use laws::{answers_agree, ranks_are_limited, trees_unfold};
 pub use prover::Prover;
 pub use proving::prove_goal;
 pub use table::{Entry, Part, Rows};
