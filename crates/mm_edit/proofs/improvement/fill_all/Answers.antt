@@ -4,7 +4,7 @@ use Rattle.mm_plain.specs.Shape.{size_of, step_at, target_of}
 use Rattle.mm_tree.proofs.Rooms.{same_error}
 use Rattle.mm_edit.specs.Improving.{number_after}
 use Rattle.mm_edit.specs.Keeping.{IsProofOf}
-use Rattle.mm_edit.specs.Proving.{prover}
+use Rattle.mm_edit.specs.Proving.{found_by}
 use Rattle.mm_edit.proofs.ImproveLemmas.{all-err, counted-end, counted-next, looks-filled, looks-first, moved-filled, turn-end, turn-err, turn-more, turn-start}
 use Rattle.mm_edit.proofs.Marks.{marks_stay}
 use Rattle.mm_edit.proofs.RoundLemmas.{begins-along, keeps-along}
@@ -14,7 +14,7 @@ use Rattle.mm_edit.proofs.improvement.fill_all.Goals.{then-branch, else-branch}
 pub loop-step-init : goal.loop-step-init
 loop-step-init g c =
     let p = c.args.tree.now.proof in
-    let prove = prover c.args.db.now c.args.at.0 c.args.set.now c.args.no_distinct c.args.depth in
+    let prove = found_by c.args.db.now c.args.prover.now.search c.args.depth in
     record {
       valid = c.requires.valid;
       so_far = turn-start prove p c.size-size.result 1 refl c.size-size.ensures;
@@ -34,7 +34,7 @@ returns-in_err-fill_step-clause-filled g c =
     let q = c.loop-step.tree.proof in
     let k = c.loop-step.step in
     let v = c.loop-step.invariant in
-    let prove = prover c.args.db.now c.args.at.0 c.args.set.now c.args.no_distinct c.args.depth in
+    let prove = found_by c.args.db.now c.args.prover.now.search c.args.depth in
     let f = c.in_err-fill_step.field-0.0 in
     let size = v.size in
     let m : k + (c.size.result - c.size-size.result) ≡ number_after p.plain q.plain k = omega (arith, c.size.ensures, size) in
@@ -52,7 +52,7 @@ loop-step-preserved g c =
     let k = c.loop-step.step in
     let v = c.loop-step.invariant in
     let bytes = c.args.db.now in
-    let prove = prover bytes c.args.at.0 c.args.set.now c.args.no_distinct c.args.depth in
+    let prove = found_by bytes c.args.prover.now.search c.args.depth in
     let b = c.in_ok-fill_step.field-0 in
     let size = v.size in
     let few = v.few in
@@ -70,7 +70,7 @@ loop-step-preserved g c =
       | else-branch w ↦ w.count-is
     ] in
     record {
-      valid = subst (λ aim. IsProofOf bytes c.args.at.0 aim new) v.valid.valid.goal_is c.in_ok-fill_step.ensures.valid;
+      valid = subst (λ aim. IsProofOf bytes c.args.prover.now.search.at.0 aim new) v.valid.valid.goal_is c.in_ok-fill_step.ensures.valid;
       so_far = sym (turn-more prove p.plain q new c.size-size.result k within filled.0) ∙ v.so_far;
       looks = looks-filled prove p.plain q new k first high v.looks filled.0;
       counted = counted-next prove p.plain q.plain k c.loop-step.count c.if-branch.count b first high v.looks filled.1 v.counted up stay;
@@ -91,7 +91,7 @@ returns-clause-filled g c =
     let v = c.loop-step.invariant in
     let size = v.size in
     let past = c.loop-step-test.false in
-    let prove = prover c.args.db.now c.args.at.0 c.args.set.now c.args.no_distinct c.args.depth in (
+    let prove = found_by c.args.db.now c.args.prover.now.search c.args.depth in (
       sym v.so_far ∙ turn-end prove p.plain c.loop-step.tree.proof c.size-size.result c.loop-step.step (omega arith),
       v.counted ∙ counted-end prove p.plain c.loop-step.step (omega arith),
     )
