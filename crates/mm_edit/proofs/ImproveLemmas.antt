@@ -1,5 +1,5 @@
 -- What the parts of IMPROVE answer, and how the steps that are left look.
-use Rattle.std.proofs.Common.{zero, suc, ◌≡◌, ◌≢◌, ℕ, ◌+◌, ◌-◌, ◌≤◌, ◌<◌, Bool, true, false, List, [], ◌∷◌, ◌++◌, map, length, take, get_or, Option, None, Some, is_some, nat_lt, ◌==◌, is_none, not, ◌&&◌, if◌then◌else◌, refl, sym, ◌∙◌, ap, subst, arith, length-append, take_all}
+use Rattle.std.proofs.Common.{zero, suc, ◌≡◌, ℕ, ◌+◌, ◌-◌, ◌≤◌, ◌<◌, Bool, true, false, List, [], ◌∷◌, ◌++◌, map, length, take, get_or, Option, None, Some, is_some, nat_lt, ◌==◌, is_none, not, ◌&&◌, if◌then◌else◌, refl, sym, ◌∙◌, ap, subst, arith, length-append, take_all}
 use Rattle.std.specs.Prelude.{Result, Ok, Err}
 use Rattle.std.specs.List.{range_with_len, count_by}
 use Rattle.std.proofs.lemmas.List.{get_or-append_right, get_or-map, length-map}
@@ -26,7 +26,6 @@ use Rattle.mm_improve.specs.declared.fault.ImproveFault.{ImproveFault}
 use Rattle.mm_improve.specs.declared.fault.ImproveFault.TheVariants as improve
 use Rattle.mm_edit.specs.Edited.{IsDone, IsDoneTimes, IsFilled, IsFilledTimes, IsRefusal, graft_fault_of, improve_fault_of}
 use Rattle.mm_edit.specs.Improving.{ProofMap, all_filled, all_improved, filled_at, filled_by, filled_in_turn, filled_with, improved, number_after, proof_for, proved_count}
-use Rattle.mm_edit.specs.Keeping.{IsProofOf}
 use Rattle.mm_edit.specs.declared.edit_fault.EditFault.{EditFault}
 use Rattle.mm_edit.specs.declared.edit_fault.EditFault.TheVariants.{NothingChanged}
 use Rattle.mm_edit.specs.Steps.{has_step, is_unknown}

@@ -1,6 +1,6 @@
-use Rattle.std.proofs.Common.{◌≡◌, ℕ, ◌+◌, ◌-◌, ◌≤◌, true, false, Bool, Ok, Err, refl, sym, ◌∙◌, ap, subst, arith}
+use Rattle.std.proofs.Common.{◌≡◌, ◌+◌, ◌-◌, ◌≤◌, true, false, Ok, Err, refl, sym, ◌∙◌, subst, arith}
 use Rattle.std.proofs.lemmas.Bool.{true≢false, false≢true}
-use Rattle.mm_plain.specs.Shape.{size_of, step_at, target_of}
+use Rattle.mm_plain.specs.Shape.{size_of}
 use Rattle.mm_tree.proofs.Rooms.{same_error}
 use Rattle.mm_edit.specs.Improving.{number_after}
 use Rattle.mm_edit.specs.Keeping.{IsProofOf}

@@ -1,9 +1,9 @@
-use Rattle.std.proofs.Common.{◌≡◌, List, Option, arith, sym, ◌∙◌, ap, subst}
+use Rattle.std.proofs.Common.{List, Option, arith, sym, ◌∙◌, ap, subst}
 use Rattle.std.specs.Prelude.{IfSome}
 use Rattle.mm_subst.specs.declared.symbol.WSym.{WSym}
 use Rattle.mm_tree.specs.Trees.{State}
 use Rattle.mm_subst.specs.Symbols.{has_work}
-use Rattle.mm_plain.specs.Shape.{step_at, target_of}
+use Rattle.mm_plain.specs.Shape.{target_of}
 use Rattle.mm_plain.specs.Valid.{IsString, IsValid, first_setting, setting_of}
 use Rattle.mm_plain.proofs.Moved.{sound-below}
 use Rattle.mm_tree.proofs.Rooms.{same_error}

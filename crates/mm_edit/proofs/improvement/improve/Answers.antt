@@ -1,4 +1,4 @@
-use Rattle.std.proofs.Common.{◌≡◌, Ok, Err, ◌∙◌, ap, sym, subst}
+use Rattle.std.proofs.Common.{Ok, Err, ◌∙◌, ap, sym, subst}
 use Rattle.mm_plain.specs.Shape.{target_of}
 use Rattle.mm_tree.proofs.Rooms.{same_error}
 use Rattle.mm_improve.specs.declared.database.Search.{Search}
