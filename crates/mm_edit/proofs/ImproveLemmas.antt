@@ -1,5 +1,5 @@
 -- What the parts of IMPROVE answer, and how the steps that are left look.
-use Rattle.std.proofs.Common.{zero, suc, ◌≡◌, ◌≢◌, ℕ, ◌+◌, ◌-◌, ◌≤◌, ◌<◌, Bool, true, false, List, [], ◌∷◌, ◌++◌, map, length, take, get_or, Option, None, Some, is_some, nat_lt, ◌==◌, is_none, not, ◌&&◌, if◌then◌else◌, refl, sym, ◌∙◌, ap, subst, arith, length-append, take_all}
+use Rattle.std.proofs.Common.{zero, suc, ◌≡◌, ℕ, ◌+◌, ◌-◌, ◌≤◌, ◌<◌, Bool, true, false, List, [], ◌∷◌, ◌++◌, map, length, take, get_or, Option, None, Some, is_some, nat_lt, ◌==◌, is_none, not, ◌&&◌, if◌then◌else◌, refl, sym, ◌∙◌, ap, subst, arith, length-append, take_all}
 use Rattle.std.specs.Prelude.{Result, Ok, Err}
 use Rattle.std.specs.List.{range_with_len, count_by}
 use Rattle.std.proofs.lemmas.List.{get_or-append_right, get_or-map, length-map}
@@ -25,8 +25,7 @@ use Rattle.mm_improve.specs.Proving.{IsFound}
 use Rattle.mm_improve.specs.declared.fault.ImproveFault.{ImproveFault}
 use Rattle.mm_improve.specs.declared.fault.ImproveFault.TheVariants as improve
 use Rattle.mm_edit.specs.Edited.{IsDone, IsDoneTimes, IsFilled, IsFilledTimes, IsRefusal, graft_fault_of, improve_fault_of}
-use Rattle.mm_edit.specs.Improving.{Prover, all_filled, all_improved, filled_at, filled_by, filled_in_turn, filled_with, improved, number_after, proof_for, proved_count}
-use Rattle.mm_edit.specs.Keeping.{IsProofOf}
+use Rattle.mm_edit.specs.Improving.{ProofMap, all_filled, all_improved, filled_at, filled_by, filled_in_turn, filled_with, improved, number_after, proof_for, proved_count}
 use Rattle.mm_edit.specs.declared.edit_fault.EditFault.{EditFault}
 use Rattle.mm_edit.specs.declared.edit_fault.EditFault.TheVariants.{NothingChanged}
 use Rattle.mm_edit.specs.Steps.{has_step, is_unknown}
@@ -106,18 +105,18 @@ found-not_grafted found p k t old now f w h other = ap (λ o. filled_by o p k) w
 
 -- ## Steps that get no proof
 
-pub goal-same : (prove : Prover) (a b : Plain) → label_of a ≡ label_of b → target_of a ≡ target_of b → proof_for prove a ≡ proof_for prove b
+pub goal-same : (prove : ProofMap) (a b : Plain) → label_of a ≡ label_of b → target_of a ≡ target_of b → proof_for prove a ≡ proof_for prove b
 goal-same prove a b e f =
     ap (λ l. if is_none l && not (has_work (target_of a)) then prove (target_of a) else None) e
     ∙ ap (λ t. if is_none (label_of b) && not (has_work t) then prove t else None) f
 
-pub known-none : (prove : Prover) (y : Plain) → is_none (label_of y) ≡ false → proof_for prove y ≡ None
+pub known-none : (prove : ProofMap) (y : Plain) → is_none (label_of y) ≡ false → proof_for prove y ≡ None
 known-none prove y e = ap (λ b. if b && not (has_work (target_of y)) then prove (target_of y) else None) e
 
-pub working-none : (prove : Prover) (y : Plain) → is_none (label_of y) ≡ true → has_work (target_of y) ≡ true → proof_for prove y ≡ None
+pub working-none : (prove : ProofMap) (y : Plain) → is_none (label_of y) ≡ true → has_work (target_of y) ≡ true → proof_for prove y ≡ None
 working-none prove y e f = ap (λ b. if b && not (has_work (target_of y)) then prove (target_of y) else None) e ∙ ap (λ b. if not b then prove (target_of y) else None) f
 
-pub goal-proof : (prove : Prover) (y : Plain) → is_none (label_of y) ≡ true → has_work (target_of y) ≡ false → proof_for prove y ≡ prove (target_of y)
+pub goal-proof : (prove : ProofMap) (y : Plain) → is_none (label_of y) ≡ true → has_work (target_of y) ≡ false → proof_for prove y ≡ prove (target_of y)
 goal-proof prove y e f = ap (λ b. if b && not (has_work (target_of y)) then prove (target_of y) else None) e ∙ ap (λ b. if not b then prove (target_of y) else None) f
 
 pub none-filled : (found : Option Plain) (p : Proof) (k : ℕ) → found ≡ None → (filled_by found p k ≡ Ok p) × (is_some found ≡ false)
@@ -180,14 +179,14 @@ looks-on : (x y : Plain) (k : ℕ) → LooksOn x y k → LooksOn x y (k + 1)
 looks-on x y k l = record { own = λ j after last. l.own j (omega arith) last; size = l.size }
 
 -- the proof that the next step gets is that of the step of x
-pub looks-proof : (prove : Prover) (x y : Plain) (k : ℕ) → k ≤ size_of x → LooksOn x y k → proof_for prove (step_at y (number_after x y k)) ≡ proof_for prove (step_at x k)
+pub looks-proof : (prove : ProofMap) (x y : Plain) (k : ℕ) → k ≤ size_of x → LooksOn x y k → proof_for prove (step_at y (number_after x y k)) ≡ proof_for prove (step_at x k)
 looks-proof prove x y k high l =
     let o = l.own k (omega arith) high in
     goal-same prove (step_at y (number_after x y k)) (step_at x k) (ap (λ (w : Own). w.1) o) (ap (λ (w : Own). w.0) o)
 
 -- ## One step
 
-pub improved-so : (prove : Prover) (p : Proof) (k : ℕ) (t : List WSym) → has_step p.plain k ≡ true → is_unknown p.plain k ≡ true → t ≡ target_of (step_at p.plain k) → has_work t ≡ false
+pub improved-so : (prove : ProofMap) (p : Proof) (k : ℕ) (t : List WSym) → has_step p.plain k ≡ true → is_unknown p.plain k ≡ true → t ≡ target_of (step_at p.plain k) → has_work t ≡ false
     → improved prove p k ≡ given (found_or (prove t) NothingChanged) (filled_with p k)
 unfolding improved
 improved-so prove p k t there unknown is plain =
@@ -226,55 +225,55 @@ improve-none meaning found p k b is n h = is ∙ given-none found p k NothingCha
 
 -- ## All steps
 
-turn-so : (prove : Prover) (x : Plain) (p : Proof) (k : ℕ) (ks : List ℕ) (r : Result Proof EditFault) → filled_at prove p (number_after x p.plain k) ≡ r → filled_in_turn prove x p (k ∷ ks) ≡ given r (λ q. filled_in_turn prove x q ks)
+turn-so : (prove : ProofMap) (x : Plain) (p : Proof) (k : ℕ) (ks : List ℕ) (r : Result Proof EditFault) → filled_at prove p (number_after x p.plain k) ≡ r → filled_in_turn prove x p (k ∷ ks) ≡ given r (λ q. filled_in_turn prove x q ks)
 turn-so prove x p k ks r e = ap (λ (y : Result Proof EditFault). given y (λ q. filled_in_turn prove x q ks)) e
 
-pub turn-more : (prove : Prover) (x : Plain) (p q : Proof) (last step : ℕ) → step ≤ last → filled_at prove p (number_after x p.plain step) ≡ Ok q
+pub turn-more : (prove : ProofMap) (x : Plain) (p q : Proof) (last step : ℕ) → step ≤ last → filled_at prove p (number_after x p.plain step) ≡ Ok q
     → filled_in_turn prove x p (range_with_len step (last + 1 - step)) ≡ filled_in_turn prove x q (range_with_len (step + 1) (last + 1 - (step + 1)))
 unfolding given
 turn-more prove x p q last step h e =
     let n : last + 1 - step ≡ suc (last + 1 - (step + 1)) = omega arith in
     ap (λ (m : ℕ). filled_in_turn prove x p (range_with_len step m)) n ∙ turn-so prove x p step (range_with_len (step + 1) (last + 1 - (step + 1))) (Ok q) e
 
-pub turn-err : (prove : Prover) (x : Plain) (p : Proof) (f : EditFault) (last step : ℕ) → step ≤ last → filled_at prove p (number_after x p.plain step) ≡ Err f
+pub turn-err : (prove : ProofMap) (x : Plain) (p : Proof) (f : EditFault) (last step : ℕ) → step ≤ last → filled_at prove p (number_after x p.plain step) ≡ Err f
     → filled_in_turn prove x p (range_with_len step (last + 1 - step)) ≡ Err f
 unfolding given
 turn-err prove x p f last step h e =
     let n : last + 1 - step ≡ suc (last + 1 - (step + 1)) = omega arith in
     ap (λ (m : ℕ). filled_in_turn prove x p (range_with_len step m)) n ∙ turn-so prove x p step (range_with_len (step + 1) (last + 1 - (step + 1))) (Err f) e
 
-pub turn-end : (prove : Prover) (x : Plain) (p : Proof) (last step : ℕ) → last < step → filled_in_turn prove x p (range_with_len step (last + 1 - step)) ≡ Ok p
+pub turn-end : (prove : ProofMap) (x : Plain) (p : Proof) (last step : ℕ) → last < step → filled_in_turn prove x p (range_with_len step (last + 1 - step)) ≡ Ok p
 turn-end prove x p last step h =
     let n : last + 1 - step ≡ 0 = omega arith in
     ap (λ (m : ℕ). filled_in_turn prove x p (range_with_len step m)) n
 
-pub turn-start : (prove : Prover) (p : Proof) (last step : ℕ) → step ≡ 1 → last ≡ size_of p.plain → filled_in_turn prove p.plain p (range_with_len step (last + 1 - step)) ≡ all_filled prove p
+pub turn-start : (prove : ProofMap) (p : Proof) (last step : ℕ) → step ≡ 1 → last ≡ size_of p.plain → filled_in_turn prove p.plain p (range_with_len step (last + 1 - step)) ≡ all_filled prove p
 unfolding all_filled
 turn-start prove p last step one is =
     let n : last + 1 - step ≡ size_of p.plain = omega arith in
     ap (λ (k : ℕ). filled_in_turn prove p.plain p (range_with_len k (last + 1 - step))) one ∙ ap (λ (m : ℕ). filled_in_turn prove p.plain p (range_with_len 1 m)) n
 
 -- how many of the first steps get a proof
-abbrev pub count_before : Prover → Plain → ℕ → ℕ
+abbrev pub count_before : ProofMap → Plain → ℕ → ℕ
 count_before prove x k = count_by (λ y. is_some (proof_for prove y)) (take (k - 1) (steps_of x))
 
-pub counted-start : (prove : Prover) (x : Plain) (k : ℕ) → k ≡ 1 → count_before prove x k ≡ 0
+pub counted-start : (prove : ProofMap) (x : Plain) (k : ℕ) → k ≡ 1 → count_before prove x k ≡ 0
 counted-start prove x k e = ap (count_before prove x) e
 
-pub counted-end : (prove : Prover) (x : Plain) (k : ℕ) → size_of x < k → count_before prove x k ≡ proved_count prove x
+pub counted-end : (prove : ProofMap) (x : Plain) (k : ℕ) → size_of x < k → count_before prove x k ≡ proved_count prove x
 counted-end prove x k h = ap (count_by (λ y. is_some (proof_for prove y))) (take_all (k - 1) (steps_of x) (omega (arith, length-steps_of x)))
 
-next-taken : (prove : Prover) (x : Plain) (k : ℕ) → 1 ≤ k → count_before prove x (k + 1) ≡ count_by (λ y. is_some (proof_for prove y)) (take (k - 1 + 1) (steps_of x))
+next-taken : (prove : ProofMap) (x : Plain) (k : ℕ) → 1 ≤ k → count_before prove x (k + 1) ≡ count_by (λ y. is_some (proof_for prove y)) (take (k - 1 + 1) (steps_of x))
 next-taken prove x k low = (let n : k + 1 - 1 ≡ k - 1 + 1 = omega arith in ap (λ (m : ℕ). count_by (λ y. is_some (proof_for prove y)) (take m (steps_of x))) n)
 
-pub counted-yes : (prove : Prover) (x : Plain) (k : ℕ) → 1 ≤ k → k ≤ size_of x → is_some (proof_for prove (step_at x k)) ≡ true → count_before prove x (k + 1) ≡ count_before prove x k + 1
+pub counted-yes : (prove : ProofMap) (x : Plain) (k : ℕ) → 1 ≤ k → k ≤ size_of x → is_some (proof_for prove (step_at x k)) ≡ true → count_before prove x (k + 1) ≡ count_before prove x k + 1
 counted-yes prove x k low high e = next-taken prove x k low ∙ count_by_more_yes (λ y. is_some (proof_for prove y)) (steps_of x) (k - 1) x (omega (arith, length-steps_of x)) e
 
-pub counted-no : (prove : Prover) (x : Plain) (k : ℕ) → 1 ≤ k → k ≤ size_of x → is_some (proof_for prove (step_at x k)) ≡ false → count_before prove x (k + 1) ≡ count_before prove x k
+pub counted-no : (prove : ProofMap) (x : Plain) (k : ℕ) → 1 ≤ k → k ≤ size_of x → is_some (proof_for prove (step_at x k)) ≡ false → count_before prove x (k + 1) ≡ count_before prove x k
 counted-no prove x k low high e = next-taken prove x k low ∙ count_by_more_no (λ y. is_some (proof_for prove y)) (steps_of x) (k - 1) x (omega (arith, length-steps_of x)) e
 
 -- the steps after the next one look the same, whether it gets a proof or not
-pub looks-filled : (prove : Prover) (x : Plain) (p q : Proof) (k : ℕ) → 1 ≤ k → k ≤ size_of x → LooksOn x p.plain k → filled_at prove p (number_after x p.plain k) ≡ Ok q → LooksOn x q.plain (k + 1)
+pub looks-filled : (prove : ProofMap) (x : Plain) (p q : Proof) (k : ℕ) → 1 ≤ k → k ≤ size_of x → LooksOn x p.plain k → filled_at prove p (number_after x p.plain k) ≡ Ok q → LooksOn x q.plain (k + 1)
 looks-filled prove x p q k low high l = go (proof_for prove (step_at p.plain (number_after x p.plain k))) refl
   where
     go : (o : Option Plain) → proof_for prove (step_at p.plain (number_after x p.plain k)) ≡ o → filled_by o p (number_after x p.plain k) ≡ Ok q → LooksOn x q.plain (k + 1)
@@ -283,14 +282,14 @@ looks-filled prove x p q k low high l = go (proof_for prove (step_at p.plain (nu
         subst (λ (r : Proof). LooksOn x r.plain (k + 1)) (sym (with-is p q (number_after x p.plain k) new h))
         (looks-put x p.plain new k low high (gets prove (step_at p.plain (number_after x p.plain k)) new e).unknown l)
 
-pub all-err : (prove : Prover) (p now : Proof) (r : Result ℕ EditFault) (f : EditFault) → r ≡ Err f → IsRefusal (all_filled prove p) f → IsFilledTimes prove p r now
+pub all-err : (prove : ProofMap) (p now : Proof) (r : Result ℕ EditFault) (f : EditFault) → r ≡ Err f → IsRefusal (all_filled prove p) f → IsFilledTimes prove p r now
 all-err prove p now r f e h = subst (λ (x : Result ℕ EditFault). IsFilledTimes prove p x now) (sym e) h
 
-pub moved-filled : (prove : Prover) (p now : Proof) (m n : ℕ) (r : Result Bool EditFault) → m ≡ n → IsFilled (proof_for prove (step_at p.plain m)) p m r now → IsFilled (proof_for prove (step_at p.plain n)) p n r now
+pub moved-filled : (prove : ProofMap) (p now : Proof) (m n : ℕ) (r : Result Bool EditFault) → m ≡ n → IsFilled (proof_for prove (step_at p.plain m)) p m r now → IsFilled (proof_for prove (step_at p.plain n)) p n r now
 moved-filled prove p now m n r e h = subst (λ (k : ℕ). IsFilled (proof_for prove (step_at p.plain k)) p k r now) e h
 
 -- the count after one more step
-pub counted-next : (prove : Prover) (x y : Plain) (k count next : ℕ) (b : Bool) → 1 ≤ k → k ≤ size_of x → LooksOn x y k → is_some (proof_for prove (step_at y (number_after x y k))) ≡ b → count ≡ count_before prove x k
+pub counted-next : (prove : ProofMap) (x y : Plain) (k count next : ℕ) (b : Bool) → 1 ≤ k → k ≤ size_of x → LooksOn x y k → is_some (proof_for prove (step_at y (number_after x y k))) ≡ b → count ≡ count_before prove x k
     → (b ≡ true → next ≡ count + 1) → (b ≡ false → next ≡ count) → next ≡ count_before prove x (k + 1)
 counted-next prove x y k count next b low high l e c up stay =
     let same = ap is_some (sym (looks-proof prove x y k high l)) ∙ e in
@@ -302,7 +301,7 @@ counted-next prove x y k count next b low high l e c up stay =
 
 -- ## Where no step gets a proof
 
-none-at : (prove : Prover) (x : Plain) (k : ℕ) → proved_count prove x ≡ 0 → 1 ≤ k → k ≤ size_of x → is_some (proof_for prove (step_at x k)) ≡ false
+none-at : (prove : ProofMap) (x : Plain) (k : ℕ) → proved_count prove x ≡ 0 → 1 ≤ k → k ≤ size_of x → is_some (proof_for prove (step_at x k)) ≡ false
 none-at prove x k none low high = go (is_some (proof_for prove (step_at x k))) refl
   where
     go : (b : Bool) → is_some (proof_for prove (step_at x k)) ≡ b → is_some (proof_for prove (step_at x k)) ≡ false
@@ -315,7 +314,7 @@ is-none : {A : Type 0} (o : Option A) → is_some o ≡ false → o ≡ None
 is-none None e = refl
 is-none (Some a) e = absurd (true≢false e)
 
-none-in-turn : (prove : Prover) (p : Proof) (n k : ℕ) → proved_count prove p.plain ≡ 0 → 1 ≤ k → k + n ≤ size_of p.plain + 1 → filled_in_turn prove p.plain p (range_with_len k n) ≡ Ok p
+none-in-turn : (prove : ProofMap) (p : Proof) (n k : ℕ) → proved_count prove p.plain ≡ 0 → 1 ≤ k → k + n ≤ size_of p.plain + 1 → filled_in_turn prove p.plain p (range_with_len k n) ≡ Ok p
 unfolding given
 none-in-turn prove p zero k none low within = refl
 none-in-turn prove p (suc n) k none low within =
@@ -324,31 +323,31 @@ none-in-turn prove p (suc n) k none low within =
     ap (filled_at prove p) same ∙ (none-filled (proof_for prove (step_at p.plain k)) p k (is-none _ (none-at prove p.plain k none low (omega (arith, within))))).0 in
     turn-so prove p.plain p k (range_with_len (k + 1) n) (Ok p) stays ∙ none-in-turn prove p n (k + 1) none (omega arith) (omega (arith, within))
 
-pub none-all : (prove : Prover) (p : Proof) → proved_count prove p.plain ≡ 0 → all_filled prove p ≡ Ok p
+pub none-all : (prove : ProofMap) (p : Proof) → proved_count prove p.plain ≡ 0 → all_filled prove p ≡ Ok p
 unfolding all_filled
 none-all prove p none = none-in-turn prove p (size_of p.plain) 1 none (omega arith) (omega arith)
 
-pub improved-none : (prove : Prover) (p : Proof) → proved_count prove p.plain ≡ 0 → all_improved prove p ≡ Err NothingChanged
+pub improved-none : (prove : ProofMap) (p : Proof) → proved_count prove p.plain ≡ 0 → all_improved prove p ≡ Err NothingChanged
 unfolding all_improved
 improved-none prove p none = holds _ _ _ _ (ap (λ n. n == 0) none)
 
 some-counted : (n : ℕ) → 0 < n → (n == 0) ≡ false
 some-counted n h = grind arith
 
-pub improved-some : (prove : Prover) (p : Proof) → 0 < proved_count prove p.plain → all_improved prove p ≡ all_filled prove p
+pub improved-some : (prove : ProofMap) (p : Proof) → 0 < proved_count prove p.plain → all_improved prove p ≡ all_filled prove p
 unfolding all_improved
 improved-some prove p some = passes _ _ _ _ (some-counted (proved_count prove p.plain) some) ∙ done-rows _
 
-pub improved-ok : (prove : Prover) (p q : Proof) (n : ℕ) → 0 < n → IsDoneTimes prove (Ok n) p q → all_improved prove p ≡ Ok q
+pub improved-ok : (prove : ProofMap) (p q : Proof) (n : ℕ) → 0 < n → IsDoneTimes prove (Ok n) p q → all_improved prove p ≡ Ok q
 improved-ok prove p q n some h = improved-some prove p (let is = h.1 in omega arith) ∙ h.0
 
 -- what is too large is a proof
-improved-err : (prove : Prover) (p : Proof) (f : EditFault) → all_filled prove p ≡ Err f → all_improved prove p ≡ Err f
+improved-err : (prove : ProofMap) (p : Proof) (f : EditFault) → all_filled prove p ≡ Err f → all_improved prove p ≡ Err f
 improved-err prove p f e = go (proved_count prove p.plain) refl
   where
     go : (n : ℕ) → proved_count prove p.plain ≡ n → all_improved prove p ≡ Err f
     go zero none = let z : Ok p ≡ Err f = sym (none-all prove p none) ∙ e in cc
     go (suc n) some = improved-some prove p (omega (arith, some)) ∙ e
 
-pub improved-refused : (prove : Prover) (p now : Proof) (f : EditFault) → IsDoneTimes prove (Err f) p now → IsDone (all_improved prove p) (Err f) p now
+pub improved-refused : (prove : ProofMap) (p now : Proof) (f : EditFault) → IsDoneTimes prove (Err f) p now → IsDone (all_improved prove p) (Err f) p now
 improved-refused prove p now f h = ((λ other. improved-err prove p f (h.0 other)), h.1)

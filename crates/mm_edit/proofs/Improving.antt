@@ -20,7 +20,8 @@ use Rattle.mm_plain.specs.Shape.{Proof, put, size_of, step_at, target_of}
 use Rattle.mm_plain.specs.Valid.{IsString, IsValid, setting_of, first_setting}
 use Rattle.mm_plain.proofs.Grafts.{valid-grafted}
 use Rattle.mm_plain.proofs.Moved.{sound-below, moved-string}
-use Rattle.mm_edit.specs.Improving.{Prover, IsProver, IsProofFor, all_filled, all_improved, filled_at, filled_by, filled_in_turn, filled_with, improved, is_goal, number_after, proof_for}
+use Rattle.mm_improve.specs.Proofs.{IsProofFor}
+use Rattle.mm_edit.specs.Improving.{ProofMap, MapsToProofs, all_filled, all_improved, filled_at, filled_by, filled_in_turn, filled_with, improved, is_goal, number_after, proof_for}
 use Rattle.mm_edit.specs.Keeping.{IsKept, IsProofOf}
 use Rattle.mm_edit.specs.declared.edit_fault.EditFault.{EditFault}
 use Rattle.mm_edit.proofs.Applied.{stands-there, target-string}
@@ -39,13 +40,13 @@ kept-with bytes at goal p q k x v low high is h =
     let z : grafted_in p k x ≡ q = cc in
     let alone : IsValid bytes at (target_of (step_at p.plain k)) part = record {
       goal_is = is.goal_is;
-      steps = is.steps;
+      steps = is.sound;
       counter = (omega arith, omega arith);
       few = not-above _ _ a.0;
       low = not-above _ _ b.0;
     } in
     subst (IsKept bytes at goal p) z (record {
-      valid = valid-grafted bytes at goal p part k v low high alone (sound-below (first_setting bytes at) p.next v.counter.0 x is.steps) (not-above _ _ c.0) (not-above _ _ d.0);
+      valid = valid-grafted bytes at goal p part k v low high alone (sound-below (first_setting bytes at) p.next v.counter.0 x is.sound) (not-above _ _ c.0) (not-above _ _ d.0);
       drawn = omega arith;
     })
 
@@ -71,7 +72,7 @@ found : {A E : Type 0} (o : Option A) (e : E) (a : A) → found_or o e ≡ Ok a 
 found (Some b) e a h = let z : b ≡ a = cc in ap Some z
 found None e a h = cc
 
-pub kept-improved : (bytes : List ℕ) (at : ℕ) (prove : Prover) (goal : List WSym) (p q : Proof) (k : ℕ) → IsProver bytes at prove → IsProofOf bytes at goal p → improved prove p k ≡ Ok q → IsKept bytes at goal p q
+pub kept-improved : (bytes : List ℕ) (at : ℕ) (prove : ProofMap) (goal : List WSym) (p q : Proof) (k : ℕ) → MapsToProofs bytes at prove → IsProofOf bytes at goal p → improved prove p k ≡ Ok q → IsKept bytes at goal p q
 unfolding improved
 kept-improved bytes at prove goal p q k proves v h =
     let a = unless-ok _ _ _ _ q h in
@@ -86,12 +87,12 @@ kept-improved bytes at prove goal p q k proves v h =
 -- ## All steps
 
 -- what a step needs to get a proof
-pub record Gets (prove : Prover) (y x : Plain) : Type 0 where
+pub record Gets (prove : ProofMap) (y x : Plain) : Type 0 where
   pub unknown : label_of y ≡ None
   pub fixed : has_work (target_of y) ≡ false
   pub proof : prove (target_of y) ≡ Some x
 
-pub gets : (prove : Prover) (y x : Plain) → proof_for prove y ≡ Some x → Gets prove y x
+pub gets : (prove : ProofMap) (y x : Plain) → proof_for prove y ≡ Some x → Gets prove y x
 gets prove y x = go (label_of y) refl (has_work (target_of y)) refl
   where
     go : (l : Option ℕ) → label_of y ≡ l → (b : Bool) → has_work (target_of y) ≡ b → (if is_none l && not b then prove (target_of y) else None) ≡ Some x → Gets prove y x
@@ -117,7 +118,7 @@ pub record Grows (bytes : List ℕ) (at : ℕ) (goal : List WSym) (p q : Proof) 
   pub kept : IsKept bytes at goal p q
   pub size : size_of p.plain ≤ size_of q.plain
 
-pub grows-at : (bytes : List ℕ) (at : ℕ) (prove : Prover) (goal : List WSym) (p q : Proof) (k : ℕ) → IsProver bytes at prove → IsValid bytes at goal p → 1 ≤ k → k ≤ size_of p.plain → filled_at prove p k ≡ Ok q → Grows bytes at goal p q
+pub grows-at : (bytes : List ℕ) (at : ℕ) (prove : ProofMap) (goal : List WSym) (p q : Proof) (k : ℕ) → MapsToProofs bytes at prove → IsValid bytes at goal p → 1 ≤ k → k ≤ size_of p.plain → filled_at prove p k ≡ Ok q → Grows bytes at goal p q
 grows-at bytes at prove goal p q k proves v low high = go (proof_for prove (step_at p.plain k)) refl
   where
     go : (o : Option Plain) → proof_for prove (step_at p.plain k) ≡ o → filled_by o p k ≡ Ok q → Grows bytes at goal p q
@@ -129,7 +130,7 @@ grows-at bytes at prove goal p q k proves v low high = go (proof_for prove (step
           size = subst (λ r. size_of p.plain ≤ size_of r.plain) (sym (with-is p q k x h)) (grown p.plain x k low high w.unknown);
         }
 
-in-turn : (bytes : List ℕ) (at : ℕ) (prove : Prover) (goal : List WSym) (x : Plain) (n k : ℕ) (p q : Proof) → IsProver bytes at prove → IsValid bytes at goal p → 1 ≤ k → k + n ≤ size_of x + 1 → size_of x ≤ size_of p.plain
+in-turn : (bytes : List ℕ) (at : ℕ) (prove : ProofMap) (goal : List WSym) (x : Plain) (n k : ℕ) (p q : Proof) → MapsToProofs bytes at prove → IsValid bytes at goal p → 1 ≤ k → k + n ≤ size_of x + 1 → size_of x ≤ size_of p.plain
     → filled_in_turn prove x p (range_with_len k n) ≡ Ok q → IsKept bytes at goal p q
 unfolding given
 in-turn bytes at prove goal x zero k p q proves v low within more h = let z : p ≡ q = cc in subst (IsKept bytes at goal p) z (record { valid = v; drawn = omega arith })
@@ -144,11 +145,11 @@ in-turn bytes at prove goal x (suc n) k p q proves v low within more h =
         let end = rest r w.kept.valid (omega arith) (omega (arith, within)) (let size = w.size in omega arith) h in
         record { valid = end.valid; drawn = let a = w.kept.drawn in let b = end.drawn in omega arith }
 
-pub kept-all_filled : (bytes : List ℕ) (at : ℕ) (prove : Prover) (goal : List WSym) (p q : Proof) → IsProver bytes at prove → IsProofOf bytes at goal p → all_filled prove p ≡ Ok q → IsKept bytes at goal p q
+pub kept-all_filled : (bytes : List ℕ) (at : ℕ) (prove : ProofMap) (goal : List WSym) (p q : Proof) → MapsToProofs bytes at prove → IsProofOf bytes at goal p → all_filled prove p ≡ Ok q → IsKept bytes at goal p q
 unfolding all_filled
 kept-all_filled bytes at prove goal p q proves v h = in-turn bytes at prove goal p.plain (size_of p.plain) 1 p q proves v.valid (omega arith) (omega arith) (omega arith) h
 
-pub kept-all_improved : (bytes : List ℕ) (at : ℕ) (prove : Prover) (goal : List WSym) (p q : Proof) → IsProver bytes at prove → IsProofOf bytes at goal p → all_improved prove p ≡ Ok q → IsKept bytes at goal p q
+pub kept-all_improved : (bytes : List ℕ) (at : ℕ) (prove : ProofMap) (goal : List WSym) (p q : Proof) → MapsToProofs bytes at prove → IsProofOf bytes at goal p → all_improved prove p ≡ Ok q → IsKept bytes at goal p q
 unfolding all_improved
 kept-all_improved bytes at prove goal p q proves v h =
     let a = unless-ok _ _ _ _ q h in

@@ -14,7 +14,7 @@ use Rattle.mm_tree.specs.declared.fault.ReplaceFault.TheVariants as replace
 use Rattle.mm_improve.specs.declared.fault.ImproveFault.{ImproveFault}
 use Rattle.mm_improve.specs.declared.fault.ImproveFault.TheVariants as improve
 use Rattle.mm_plain.specs.declared.plain.Plain.{Plain}
-use Rattle.mm_edit.specs.Improving.{Prover, all_filled, filled_by, proved_count}
+use Rattle.mm_edit.specs.Improving.{ProofMap, all_filled, filled_by, proved_count}
 use Rattle.mm_edit.specs.Unifying.{shows_listing}
 use Rattle.mm_edit.specs.declared.edit_fault.EditFault.{EditFault}
 use Rattle.mm_edit.specs.declared.unification.UnifyFault.{UnifyFault}
@@ -92,11 +92,11 @@ IsFilled found p k (Ok b) now = (filled_by found p k ≡ Ok now) × (is_some fou
 IsFilled found p k (Err f) now = IsRefusal (filled_by found p k) f
 
 -- Each step that gets a proof is replaced by it now, and it is told how many they were; or that is refused, or memory ran out.
-abbrev pub IsFilledTimes : Prover → Proof → Result ℕ EditFault → Proof → Type 0
+abbrev pub IsFilledTimes : ProofMap → Proof → Result ℕ EditFault → Proof → Type 0
 IsFilledTimes prove p (Ok n) now = (all_filled prove p ≡ Ok now) × (n ≡ proved_count prove p.plain)
 IsFilledTimes prove p (Err f) now = IsRefusal (all_filled prove p) f
 
 -- The same, where the proof is as before in the latter cases.
-abbrev pub IsDoneTimes : Prover → Result ℕ EditFault → Proof → Proof → Type 0
+abbrev pub IsDoneTimes : ProofMap → Result ℕ EditFault → Proof → Proof → Type 0
 IsDoneTimes prove (Ok n) old now = (all_filled prove old ≡ Ok now) × (n ≡ proved_count prove old.plain)
 IsDoneTimes prove (Err f) old now = IsRefusal (all_filled prove old) f × (now ≡ old)

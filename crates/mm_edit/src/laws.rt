@@ -11,7 +11,7 @@ ghost use Rattle.mm_subst.specs.Statements.{statement_of};
 ghost use Rattle.mm_edit.specs.Assigning.{assigned};
 ghost use Rattle.mm_edit.specs.Built.{IsBuiltProof};
 ghost use Rattle.mm_edit.specs.Deleting.{deleted, floats_deleted};
-ghost use Rattle.mm_edit.specs.Improving.{IsProver, Prover, all_improved, improved};
+ghost use Rattle.mm_edit.specs.Improving.{MapsToProofs, ProofMap, all_improved, improved};
 ghost use Rattle.mm_edit.specs.Initializing.{all_initialized, initialized};
 ghost use Rattle.mm_edit.specs.Keeping.{IsKept, IsProofOf};
 ghost use Rattle.mm_edit.specs.Labelling.{label_tree_at, labels_for};
@@ -34,8 +34,8 @@ pub fn accepted_edits_keep_proofs_valid(bytes: &[u8])
     ensures all_unified { (at : ℕ) (set : Settings) (goal : List WSym) (p q : Proof) → IsProofOf bytes.now at goal p → all_unified bytes.now set p ≡ Ok q → IsKept bytes.now at goal p q }
     ensures initialized { (at k : ℕ) (goal : List WSym) (p q : Proof) → IsProofOf bytes.now at goal p → initialized bytes.now p k ≡ Ok q → IsKept bytes.now at goal p q }
     ensures all_initialized { (at : ℕ) (goal : List WSym) (p q : Proof) → IsProofOf bytes.now at goal p → all_initialized bytes.now p ≡ Ok q → IsKept bytes.now at goal p q }
-    ensures improved { (at k : ℕ) (prove : Prover) (goal : List WSym) (p q : Proof) → IsProver bytes.now at prove → IsProofOf bytes.now at goal p → improved prove p k ≡ Ok q → IsKept bytes.now at goal p q }
-    ensures all_improved { (at : ℕ) (prove : Prover) (goal : List WSym) (p q : Proof) → IsProver bytes.now at prove → IsProofOf bytes.now at goal p → all_improved prove p ≡ Ok q → IsKept bytes.now at goal p q }
+    ensures improved { (at k : ℕ) (prove : ProofMap) (goal : List WSym) (p q : Proof) → MapsToProofs bytes.now at prove → IsProofOf bytes.now at goal p → improved prove p k ≡ Ok q → IsKept bytes.now at goal p q }
+    ensures all_improved { (at : ℕ) (prove : ProofMap) (goal : List WSym) (p q : Proof) → MapsToProofs bytes.now at prove → IsProofOf bytes.now at goal p → all_improved prove p ≡ Ok q → IsKept bytes.now at goal p q }
     ensures deleted { (at k : ℕ) (goal : List WSym) (p q : Proof) → IsProofOf bytes.now at goal p → deleted p k ≡ Ok q → IsKept bytes.now at goal p q }
     ensures floats_deleted { (at : ℕ) (goal : List WSym) (p q : Proof) → IsProofOf bytes.now at goal p → floats_deleted bytes.now p ≡ Ok q → IsKept bytes.now at goal p q }
 {

@@ -47,14 +47,6 @@ abbrev pub replace : Settings → List ℕ → ℕ → Proof → StepWord → Li
 replace set bytes theorem p step label guarded_too =
     with_statement bytes label guarded_too (λ id. replaced bytes theorem set p (step_number p.plain step) id) (edit_refusal label (step_number p.plain step))
 
--- ## REPLACE
-
-abbrev pub replace : Settings → List ℕ → ℕ → Proof → StepWord → List ℕ → Bool → Result Proof Refusal
-replace set bytes theorem p step label guarded_too =
-    given (statement_named bytes label) (λ id.
-    unless ((is_forbidden guarded_too bytes id, Guarded label) ∷ [])
-    (or_refusal (replaced bytes theorem set p (step_number p.plain step) id) (edit_refusal label (step_number p.plain step))))
-
 -- ## LET
 
 -- the text is the word with a number

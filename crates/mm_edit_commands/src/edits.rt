@@ -5,7 +5,8 @@ ghost use Rattle.mm_command.specs.Meanings.{meaning_of};
 ghost use Rattle.mm_edit.specs.Counts.{pending_count};
 ghost use Rattle.mm_plain.specs.Numbers.{HasOwnLabels};
 ghost use Rattle.mm_plain.specs.Shape.{size_of};
-ghost use Rattle.mm_scope.specs.Contents.{labels_of};
+ghost use Rattle.mm_scope.specs.Contents.{labels_of, stated_at};
+ghost use Rattle.mm_stated.specs.declared.statement.Kind.TheVariants.{Theorem};
 ghost use Rattle.mm_shell.specs.Sound.{IsOpenIn, IsProofOf, IsSound};
 ghost use Rattle.mm_tree.specs.Versions.{BeginsAlike, HasNoDrafts};
 ghost use Rattle.mm_undo.specs.Histories.{IsHistoryOf, IsMarkOfBeginning, KeepsSettled};
@@ -170,6 +171,7 @@ fn edit_tree<'a, L: Ledger>(
     steps: &mut Steps<L>,
 ) -> Result<(), Refusal<'a>>
     requires at { theorem.0 < length (labels_of database.now) }
+    requires theorem { (stated_at database.now theorem.0).kind ≡ Theorem }
     requires valid { IsProofOf database.now theorem.0 tree.old.proof }
     requires settled { HasNoDrafts tree.old.versions }
     ensures edited { EditsTree (edit_of (meaning_of command.entry) settings.now database.now theorem.0 tree.old.proof) tree.old.proof result tree.new.proof }

@@ -1,7 +1,8 @@
 //! IMPROVE step and IMPROVE ALL.
 
 ghost use Rattle.std.specs.Prelude.{◌≡◌, ◌<◌, OnErr, length};
-ghost use Rattle.mm_scope.specs.Contents.{labels_of};
+ghost use Rattle.mm_scope.specs.Contents.{labels_of, stated_at};
+ghost use Rattle.mm_stated.specs.declared.statement.Kind.TheVariants.{Theorem};
 ghost use Rattle.mm_shell.specs.Sound.{IsProofOf};
 ghost use Rattle.mm_tree.specs.Versions.{BeginsAlike, HasNoDrafts};
 ghost use Rattle.mm_undo.specs.Histories.{KeepsSettled};
@@ -45,6 +46,7 @@ fn improve_numbered<'a, L: Ledger>(
     steps: &mut Steps<L>,
 ) -> Result<(), Refusal<'a>>
     requires at { theorem.0 < length (labels_of database.now) }
+    requires theorem { (stated_at database.now theorem.0).kind ≡ Theorem }
     requires valid { IsProofOf database.now theorem.0 tree.old.proof }
     requires settled { HasNoDrafts tree.old.versions }
     ensures edited { EditsTree (improve_numbered settings.now database.now theorem.0 tree.old.proof step depth no_distinct) tree.old.proof result tree.new.proof }
@@ -83,6 +85,7 @@ pub fn improve_step<'a, L: Ledger>(
     steps: &mut Steps<L>,
 ) -> Result<(), Refusal<'a>>
     requires at { theorem.0 < length (labels_of database.now) }
+    requires theorem { (stated_at database.now theorem.0).kind ≡ Theorem }
     requires valid { IsProofOf database.now theorem.0 tree.old.proof }
     requires settled { HasNoDrafts tree.old.versions }
     ensures edited { EditsTree (improve_step settings.now database.now theorem.0 tree.old.proof step depth no_distinct) tree.old.proof result tree.new.proof }
@@ -116,6 +119,7 @@ pub fn improve_all<'a, L: Ledger>(
     steps: &mut Steps<L>,
 ) -> Result<(), Refusal<'a>>
     requires at { theorem.0 < length (labels_of database.now) }
+    requires theorem { (stated_at database.now theorem.0).kind ≡ Theorem }
     requires valid { IsProofOf database.now theorem.0 tree.old.proof }
     requires settled { HasNoDrafts tree.old.versions }
     ensures edited { EditsTree (improve_all settings.now database.now theorem.0 tree.old.proof depth no_distinct) tree.old.proof result tree.new.proof }

@@ -30,5 +30,5 @@ pub fn trees_unfold()
 pub fn found_proofs_are_proofs(bytes: &[u8])
     ensures { FindsProofs bytes.now }
 {
-    mandatory_variables_differ(bytes);
+    let _ = bytes;
 }

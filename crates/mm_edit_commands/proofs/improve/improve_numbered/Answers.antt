@@ -2,7 +2,7 @@ use Rattle.std.proofs.Common.{ℕ, [], Err, subst}
 use Rattle.mm_shell.specs.Answers.{or_refusal}
 use Rattle.mm_edit_commands.specs.Edits.{EditsTree}
 use Rattle.mm_edit.specs.Improving.{improved}
-use Rattle.mm_edit.specs.Proving.{prover}
+use Rattle.mm_edit.specs.Proving.{proofs_found}
 use Rattle.mm_edit_commands.proofs.EditFits.{of_target}
 use Rattle.mm_edit_commands.proofs.EditLemmas.{edit_done, edit_refused}
 use Rattle.mm_edit_commands.specs.Refusals.{edit_refusal}
@@ -13,11 +13,11 @@ improve-requires-clause-valid g c = of_target c.args.database.now c.args.theorem
 
 pub returns-in-Ok-clause-edited : goal.returns-in-Ok-clause-edited
 returns-in-Ok-clause-edited g c =
-    rw (← c.depth_of-depth.ensures) (edit_done (edit_refusal [] c.args.step) (improved (prover c.args.database.now c.args.theorem.0 c.args.settings.now c.args.no_distinct c.depth_of-depth.result) c.args.tree.now.proof c.args.step) c.args.tree.now.proof c.improve.new.tree.proof c.in-Ok.ensures.done)
+    rw (← c.depth_of-depth.ensures) (edit_done (edit_refusal [] c.args.step) (improved (proofs_found c.args.database.now c.args.theorem.0 c.args.settings.now c.args.no_distinct c.depth_of-depth.result) c.args.tree.now.proof c.args.step) c.args.tree.now.proof c.improve.new.tree.proof c.in-Ok.ensures.done)
 
 pub returns-in-Err-clause-edited : goal.returns-in-Err-clause-edited
 returns-in-Err-clause-edited g c =
     let p = c.args.tree.now.proof in
     let k = c.args.step in
-    subst (λ (d : ℕ). EditsTree (or_refusal (improved (prover c.args.database.now c.args.theorem.0 c.args.settings.now c.args.no_distinct d) p k) (edit_refusal [] k)) p (Err c.edit_refusal.result) c.improve.new.tree.proof) c.depth_of-depth.ensures
-    (rw c.edit_refusal.ensures (edit_refused [] k (improved (prover c.args.database.now c.args.theorem.0 c.args.settings.now c.args.no_distinct c.depth_of-depth.result) p k) c.in-Err.fault p c.improve.new.tree.proof c.in-Err.ensures.done))
+    subst (λ (d : ℕ). EditsTree (or_refusal (improved (proofs_found c.args.database.now c.args.theorem.0 c.args.settings.now c.args.no_distinct d) p k) (edit_refusal [] k)) p (Err c.edit_refusal.result) c.improve.new.tree.proof) c.depth_of-depth.ensures
+    (rw c.edit_refusal.ensures (edit_refused [] k (improved (proofs_found c.args.database.now c.args.theorem.0 c.args.settings.now c.args.no_distinct c.depth_of-depth.result) p k) c.in-Err.fault p c.improve.new.tree.proof c.in-Err.ensures.done))
