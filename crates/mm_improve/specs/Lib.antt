@@ -9,3 +9,5 @@ pub mod Proving
 pub mod Traces
 pub mod Laying
 pub mod Proofs
+pub mod Choices
+pub mod Steps

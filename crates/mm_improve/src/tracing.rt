@@ -8,7 +8,7 @@ ghost use Rattle.mm_improve.specs.Grammars.{grammar_of, order_for, place, place_
 ghost use Rattle.mm_improve.specs.Items.{may_lead};
 ghost use Rattle.mm_improve.specs.Proving.{rank_limit};
 ghost use Rattle.mm_improve.specs.Searches.{terms};
-ghost use Rattle.mm_improve.specs.Traces.{IsOver, IsRanked, IsTraced, kids_of, no_part, whole};
+ghost use Rattle.mm_improve.specs.Traces.{IsOver, IsRanked, IsTraced, keys_of, kids_of, no_part, whole};
 
 use crate::conclusion::{itemized, place_or_none};
 use crate::database::{Search, text_of};
@@ -60,18 +60,19 @@ fn push_each(
     Ok(())
 }
 
-/// Appends the parts for the hypotheses of what an entry names.
-fn push_kids(
+/// Appends the parts for the hypotheses of what an entry names, and answers its variables.
+pub fn push_kids(
     alloc: Global,
     db: &Database,
     entry: &Entry,
     stack: &mut Vec<Part>,
-) -> Result<(), Memory>
+) -> Result<Vec<u32>, Memory>
     requires { 0 < entry.now.rank → entry.now.id < length (labels_of db.now) }
-    ensures { IfOk result (λ _. stack.new.items ≡ stack.old.items ++ kids_of db.now entry.now) }
+    ensures kids { IfOk result (λ _. stack.new.items ≡ stack.old.items ++ kids_of db.now entry.now) }
+    ensures keys { IfOk result (λ v. v.items ≡ keys_of db.now entry.now) }
 {
     if entry.rank == 0 {
-        return Ok(());
+        return Ok(Vec::new(alloc));
     }
     let keys = variables_for(alloc, db, StmtId(entry.id))?;
     let order = order_of(alloc, db, StmtId(entry.id), keys.as_slice())?;
@@ -80,7 +81,8 @@ fn push_kids(
         order.as_slice(),
         entry.parts.as_slice(),
         stack,
-    )
+    )?;
+    Ok(keys)
 }
 
 /// Appends parts over whose trees the tree of a part is one step.
@@ -107,7 +109,10 @@ fn step_down(
     let _ = goal;
     let _ = text;
     match rows.find(part.from, part.code, part.to) {
-        Some(entry) => push_kids(alloc, db, entry, stack),
+        Some(entry) => {
+            push_kids(alloc, db, entry, stack)?;
+            Ok(())
+        }
         None => Ok(()),
     }
 }
