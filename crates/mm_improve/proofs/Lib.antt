@@ -29,3 +29,8 @@ pub mod Kids
 pub mod Leading
 pub mod TraceLemmas
 pub mod TraceSteps
+pub mod StepLemmas
+pub mod LayingLemmas
+pub mod EmptyGoals
+pub mod Bare
+pub mod ChoiceLemmas

@@ -55,11 +55,11 @@ some_there None h = absurd (false≢true h)
 some_there (Some a) h = (a, refl)
 
 module _ (c : Terms) where
-  at-zero : (g : List WSym) → chosen c 0 g ≡ unless_long g (on (at_rank 0) (hypothesis c g))
+  pub at-zero : (g : List WSym) → chosen c 0 g ≡ unless_long g (on (at_rank 0) (hypothesis c g))
   unfolding chosen
   at-zero g = refl
 
-  at-suc : (r : ℕ) (g : List WSym) → chosen c (suc r) g ≡ unless_long g (or_else (chosen c r g) (on (at_rank (suc r)) (first (serves c (chosen c r)) (uses c g))))
+  pub at-suc : (r : ℕ) (g : List WSym) → chosen c (suc r) g ≡ unless_long g (or_else (chosen c r g) (on (at_rank (suc r)) (first (serves c (chosen c r)) (uses c g))))
   unfolding chosen
   at-suc r g = refl
 
