@@ -61,7 +61,7 @@ at cs [] j l h = absurd (omega arith)
 at cs (g ∷ v) zero l h = h.0
 at cs (g ∷ v) (suc j) l h = at cs v j (omega arith) h.1
 
-used : (G : Grammar) (g : Goal) (a : Assertion) (u : Use) → Among a G.assertions → Among u (uses_of G g a) → AreOf (part_codes G) u.1
+pub used : (G : Grammar) (g : Goal) (a : Assertion) (u : Use) → Among a G.assertions → Among u (uses_of G g a) → AreOf (part_codes G) u.1
 used G g a u i h = by (is_same a.code g.0) h
   where
     by : (b : Bool) → Among u (cond b (map (λ v. (a.id, v)) (matches (fits G a.apart) a.items [] g.1)) []) → AreOf (part_codes G) u.1

@@ -27,6 +27,8 @@ pub mod ActiveKinds
 pub mod Unfolding
 pub mod Kids
 pub mod Leading
+pub mod Narrowing
+pub mod NarrowCodes
 pub mod TraceLemmas
 pub mod TraceSteps
 pub mod StepLemmas

@@ -1,5 +1,5 @@
 -- Found proofs are laid out step by step.
-use Rattle.std.specs.Prelude.{◌≡◌, ◌≤◌, ◌<◌, ◌+◌, ℕ, Bool, true, false, List, [], ◌∷◌, ◌++◌, length, Option, None, Some, Result, Ok, Err}
+use Rattle.std.specs.Prelude.{◌≡◌, ◌≤◌, ◌<◌, ◌+◌, ℕ, Bool, true, false, List, [], ◌∷◌, ◌++◌, length, Option, None, Some, IfSome, Result, Ok, Err}
 use Rattle.std.specs.List.{sum_by}
 use Rattle.mm_scope.specs.Contents.{labels_of, stated_at}
 use Rattle.mm_stated.specs.Stated.{is_hypothesis}
@@ -9,16 +9,18 @@ use Rattle.mm_plain.specs.Valid.{most_steps}
 use Rattle.mm_tree.specs.Plans.{IsPlan, grove_of}
 use Rattle.mm_tree.specs.declared.plan.Plan.{Plan}
 use Rattle.mm_improve.specs.Grammars.{grammar_of}
+use Rattle.mm_improve.specs.Narrow.{is_taken, narrowed}
 use Rattle.mm_improve.specs.Searches.{terms}
 use Rattle.mm_improve.specs.declared.fault.ImproveFault.{ImproveFault}
 use Rattle.mm_improve.specs.declared.fault.ImproveFault.TheVariants.{TooManySteps, TooDeep, Memory}
 use Rattle.mm_improve.specs.declared.prover.Prover.{Prover}
 
--- what is searched by is the grammar of the theorem
+-- what is searched by is the grammar of the theorem: all of it, or what it has for the typecodes of `$f`
 pub record IsReady (bytes : List ℕ) (p : Prover) : Type 0 where
   pub own : p.search.at.0 < length (labels_of bytes)
   pub assertion : is_hypothesis (stated_at bytes p.search.at.0).kind ≡ false
-  pub rules : p.rules ≡ grammar_of (terms bytes p.search)
+  pub parts : p.parts ≡ narrowed (is_taken bytes true) (grammar_of (terms bytes p.search))
+  pub all : IfSome p.all (λ g. g ≡ grammar_of (terms bytes p.search))
 
 -- how many steps the trees of a plan have
 abbrev pub steps_in : Plan → ℕ
@@ -44,7 +46,7 @@ LaysFound old None left (Err TooManySteps) new = ⊥
 LaysFound old None left (Err TooDeep) new = ⊥
 LaysFound old None left (Err Memory) new = Unit {0}
 LaysFound old (Some x) left (Ok b) new = (b ≡ true) × IsLaid old x left new
-LaysFound old (Some x) left (Err f) new = LaysTree {Bool} old x left (Err f) new
+LaysFound old (Some x) left (Err f) new = LaysTree {A = Bool} old x left (Err f) new
 
 -- The steps of a tree that is found are counted; or they are too many.
 abbrev pub IsCounted : Option Plain → Result ℕ ImproveFault → Type 0

@@ -7,6 +7,7 @@ pub mod Grammars
 pub mod Searches
 pub mod Proving
 pub mod Traces
+pub mod Narrow
 pub mod Laying
 pub mod Proofs
 pub mod Choices

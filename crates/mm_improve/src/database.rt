@@ -1,6 +1,6 @@
 //! The grammar of a theorem, read off its database.
 
-ghost use Rattle.std.specs.Prelude.{◌≡◌, ◌<◌, ◌==◌, ◌++◌, ◌&&◌, not, false, ℕ, [], length, map, slice_index_or, IfOk, All};
+ghost use Rattle.std.specs.Prelude.{◌≡◌, ◌<◌, ◌==◌, ◌++◌, ◌&&◌, filter, not, false, ℕ, [], length, map, slice_index_or, IfOk, All};
 ghost use Rattle.std.specs.List.{list_all, list_any};
 ghost use Rattle.mm_scope.specs.Contents.{labels_of, stated_at, active_at};
 ghost use Rattle.mm_stated.specs.Stated.{is_essential, is_hypothesis};
@@ -9,6 +9,7 @@ ghost use Rattle.mm_subst.specs.Statements.{statement_of};
 ghost use Rattle.mm_unify.specs.Forbidden.{heeded};
 ghost use Rattle.mm_improve.specs.Assertions.{has_essential, may_be_used, plain_assertions};
 ghost use Rattle.mm_improve.specs.Grammars.{assertion_of, grammar_of, hypothesis_of, split};
+ghost use Rattle.mm_improve.specs.Narrow.{is_float_code, is_taken, narrowed};
 ghost use Rattle.mm_improve.specs.Searches.{terms};
 
 use crate::conclusion::{apart_of, itemized};
@@ -186,14 +187,46 @@ fn is_plain_assertion(
     Ok(!db.usage_guarded(id))
 }
 
-/// The plain assertions before a theorem.
-fn patterns(alloc: Global, db: &Database, search: Search) -> Result<Vec<Pattern>, Memory>
+/// Whether a symbol is the typecode of some `$f`.
+pub fn is_float_code(db: &Database, code: WSym) -> bool
+    ensures { result ≡ is_float_code db.now code }
+{
+    match code {
+        WSym::Const(number) => db.typecode_of_float(Sym(number)),
+        WSym::Var(_) | WSym::Work(_) => false,
+    }
+}
+
+/// Whether a statement is an assertion without `$e` that may be used, and its typecode is taken.
+fn is_plain_taken(
+    alloc: Global,
+    db: &Database,
+    id: StmtId,
+    search: Search,
+    narrow: bool,
+) -> Result<bool, Memory>
+    requires { id.0 < length (labels_of db.now) }
+    ensures { IfOk result (λ b. b ≡ (is_taken db.now narrow (assertion_of db.now id.0).code && (may_be_used (terms db.now search) id.0 && not (has_essential db.now id.0)))) }
+{
+    if narrow && !is_float_code(db, code_of(db, id)) {
+        return Ok(false);
+    }
+    is_plain(alloc, db, id, search)
+}
+
+/// The plain assertions before a theorem; or those alone whose typecodes are typecodes of `$f`.
+fn patterns(
+    alloc: Global,
+    db: &Database,
+    search: Search,
+    narrow: bool,
+) -> Result<Vec<Pattern>, Memory>
     requires { search.at.0 < length (labels_of db.now) }
-    ensures { IfOk result (λ v. v.items ≡ map (assertion_of db.now) (plain_assertions (terms db.now search))) }
+    ensures { IfOk result (λ v. v.items ≡ filter (λ a. is_taken db.now narrow a.code) (map (assertion_of db.now) (plain_assertions (terms db.now search)))) }
 {
     let mut patterns = Vec::new(alloc);
     for id in 0..search.at.0 {
-        if is_plain(alloc, db, StmtId(id), search)? {
+        if is_plain_taken(alloc, db, StmtId(id), search, narrow)? {
             patterns.push(pattern_of(alloc, db, StmtId(id))?)?;
         }
     }
@@ -228,9 +261,23 @@ pub fn rules(alloc: Global, db: &Database, search: Search) -> Result<Rules, Memo
     requires assertion { is_hypothesis (stated_at db.now search.at.0).kind ≡ false }
     ensures { IfOk result (λ g. g ≡ grammar_of (terms db.now search)) }
 {
+    rules_for(alloc, db, search, false)
+}
+
+/// That grammar, or what it has for typecodes of `$f` alone.
+pub fn rules_for(
+    alloc: Global,
+    db: &Database,
+    search: Search,
+    narrow: bool,
+) -> Result<Rules, Memory>
+    requires own { search.at.0 < length (labels_of db.now) }
+    requires assertion { is_hypothesis (stated_at db.now search.at.0).kind ≡ false }
+    ensures { IfOk result (λ g. g ≡ narrowed (is_taken db.now narrow) (grammar_of (terms db.now search))) }
+{
     let ids = db.frame(search.at).active.to_vec(alloc)?;
     let hypotheses = hypotheses(alloc, db, ids.as_slice())?;
-    let assertions = patterns(alloc, db, search)?;
+    let assertions = patterns(alloc, db, search, narrow)?;
     let groups = db.parted(alloc, search.at)?;
     Ok(Rules {
         hypotheses,

@@ -25,18 +25,20 @@ impl Prover {
     /// # Errors
     /// `TooManySteps` where it has more than 1,000,000 steps, or else `TooDeep` where it has more than 2,000 levels.
     pub fn prove<L: Ledger>(
-        &self,
+        &mut self,
         alloc: Global,
         db: &Database,
         goal: &WStr,
         depth: u32,
         steps: &mut Steps<L>,
     ) -> Result<Option<Tree>, ImproveFault>
-        requires ready { IsReady db.now self.now }
-        requires string { IsString (first_setting db.now self.now.search.at.0) goal.now }
-        ensures found { IsFound result (proof_of (terms db.now self.now.search) depth goal.now) }
-        ensures valid { IfOk result (λ o. IfSome o (λ t. IsValid db.now self.now.search.at.0 goal.now t.proof)) }
+        requires ready { IsReady db.now self.old }
+        requires string { IsString (first_setting db.now self.old.search.at.0) goal.now }
+        ensures found { IsFound result (proof_of (terms db.now self.old.search) depth goal.now) }
+        ensures valid { IfOk result (λ o. IfSome o (λ t. IsValid db.now self.old.search.at.0 goal.now t.proof)) }
         ensures settled { IfOk result (λ o. IfSome o (λ t. HasNoDrafts t.versions)) }
+        ensures ready { IsReady db.now self.new }
+        ensures search { self.new.search ≡ self.old.search }
     {
         let _ = alloc;
         let _ = db;
@@ -62,6 +64,6 @@ pub fn prove_goal<L: Ledger>(
     ensures found { IsFound result (proof_of (terms db.now search) depth goal.now) }
     ensures valid { IfOk result (λ o. IfSome o (λ t. IsValid db.now search.at.0 goal.now t.proof)) }
 {
-    let prover = Prover::new(alloc, db, search)?;
+    let mut prover = Prover::new(alloc, db, search)?;
     prover.prove(alloc, db, goal, depth, steps)
 }
