@@ -29,3 +29,5 @@ pub mod Kids
 pub mod Leading
 pub mod TraceLemmas
 pub mod TraceSteps
+pub mod FoundValues
+pub mod FoundLists

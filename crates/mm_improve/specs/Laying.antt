@@ -44,7 +44,7 @@ LaysFound old None left (Err TooManySteps) new = ⊥
 LaysFound old None left (Err TooDeep) new = ⊥
 LaysFound old None left (Err Memory) new = Unit {0}
 LaysFound old (Some x) left (Ok b) new = (b ≡ true) × IsLaid old x left new
-LaysFound old (Some x) left (Err f) new = LaysTree {Bool} old x left (Err f) new
+LaysFound old (Some x) left (Err f) new = LaysTree {A = Bool} old x left (Err f) new
 
 -- The steps of a tree that is found are counted; or they are too many.
 abbrev pub IsCounted : Option Plain → Result ℕ ImproveFault → Type 0

@@ -9,3 +9,4 @@ pub mod Proving
 pub mod Traces
 pub mod Laying
 pub mod Proofs
+pub mod Finding

@@ -11,11 +11,13 @@ ghost use Rattle.mm_improve.specs.Searches.{terms};
 
 use crate::database::Search;
 use crate::fault::ImproveFault;
+use crate::finding::{found_size, lay_found};
+use crate::laws::found_proofs_are_proofs;
 use crate::prover::Prover;
 use mm_base::Steps;
 use mm_scope::Database;
 use mm_subst::WStr;
-use mm_tree::Tree;
+use mm_tree::{MOST_LEVELS, Plan, Tree};
 use std::alloc::Global;
 use std::sync::ledger::Ledger;
 
@@ -38,12 +40,21 @@ impl Prover {
         ensures valid { IfOk result (λ o. IfSome o (λ t. IsValid db.now self.now.search.at.0 goal.now t.proof)) }
         ensures settled { IfOk result (λ o. IfSome o (λ t. HasNoDrafts t.versions)) }
     {
-        let _ = alloc;
-        let _ = db;
-        let _ = goal;
-        let _ = depth;
-        let _ = steps;
-        Err(ImproveFault::Memory)
+        found_proofs_are_proofs(db.bytes());
+        let mut plan = Plan::new(alloc);
+        match lay_found(alloc, db, self, goal, depth, MOST_LEVELS as u32, &mut plan) {
+            Ok(true) => {
+                let tree = plan.into_tree(alloc, 1, steps)?;
+                Ok(Some(tree))
+            }
+            Ok(false) => Ok(None),
+            Err(ImproveFault::TooDeep) => {
+                // The size goes before the height.
+                found_size(alloc, db, self, goal, depth)?;
+                Err(ImproveFault::TooDeep)
+            }
+            Err(fault) => Err(fault),
+        }
     }
 }
 
