@@ -1,9 +1,10 @@
 -- The values of a match are strings of the theorem that the goal is one of.
-use Rattle.std.proofs.Common.{◌≡◌, ◌<◌, ◌≤◌, ◌+◌, ◌==◌, ℕ, zero, suc, Bool, true, false, ◌&&◌, ◌||◌, not, cond, List, [], ◌∷◌, ◌++◌, Option, None, Some, map, length, get_or, slice_get, slice_index, refl, sym, ◌∙◌, ap, arith, inl, inr, subst, if◌then◌else◌, length-append}
+use Rattle.std.proofs.Common.{◌≡◌, ◌<◌, ◌≤◌, ◌+◌, ◌==◌, ℕ, zero, suc, Bool, true, false, ◌&&◌, ◌||◌, not, cond, List, [], ◌∷◌, ◌++◌, Option, None, Some, map, length, get_or, slice_get, slice_index, refl, sym, ◌∙◌, ap, arith, inl, inr, subst, if◌then◌else◌, length-append, nat_lt}
 use Rattle.std.specs.List.{All, AllByRecursion, list_all, list_any, cons_option}
 use Rattle.std.proofs.lemmas.Bool.{cases_Bool, cases_eq, cases_lt, eq-eqb, ne_eqb, false≢true, true≢false, ltb-false}
 use Rattle.std.proofs.lemmas.List.Elements.{recursion_from_All, All-from_recursion}
 use Rattle.mm_scope.specs.Contents.{labels_of, statements_of, stated_at, is_variable_of}
+use Rattle.mm_scope.specs.Description.{is_usage_guarded}
 use Rattle.mm_scope.specs.Laws.{AllDiffer}
 use Rattle.mm_stated.specs.Mandatory.{variables_of}
 use Rattle.mm_stated.specs.Stated.{Stated, is_hypothesis, floated_by, variable_of}
@@ -27,7 +28,7 @@ use Rattle.mm_plain.specs.Valid.{Setting, IsKnownSymbol, IsString, first_setting
 use Rattle.mm_plain.proofs.Bounds.{applied-known}
 use Rattle.mm_plain.proofs.Forms.{formed, no_other, string_of_statement}
 use Rattle.mm_plain.proofs.Fresh.{length-applied-fresh}
-use Rattle.mm_improve.specs.Assertions.{are_concluded, pattern}
+use Rattle.mm_improve.specs.Assertions.{Terms, are_concluded, may_be_used, pattern}
 use Rattle.mm_improve.specs.Finding.{HasStrings}
 
 -- ## Strings without work variables
@@ -249,3 +250,26 @@ applied_string bytes at sigma s h string short = record {
 
 pub premise_string : (bytes : List ℕ) (at : ℕ) (sigma : Pairs) (m : ℕ) → HasStrings bytes at sigma → length (applied sigma (statement_of bytes m)) ≤ most_symbols → IsString (first_setting bytes at) (applied sigma (statement_of bytes m))
 premise_string bytes at sigma m h short = applied_string bytes at sigma (statement_of bytes m) h (string_of_statement (first_setting bytes at) m) short
+
+-- ## The unifiers that are listed
+
+pub usable_concluded : (c : Terms) (id : ℕ) → may_be_used c id ≡ true → are_concluded c.bytes id ≡ true
+usable_concluded c id h =
+    let k = not (is_hypothesis (stated_at c.bytes id).kind) in
+    let g = not (is_usage_guarded c.bytes id) in
+    let u = both (k && are_concluded c.bytes id && g) (not (c.no_distinct && nat_lt 0 (length (stated_at c.bytes id).pairs))) h in
+    let v = both (k && are_concluded c.bytes id) g u.0 in
+    (both k (are_concluded c.bytes id) v.0).1
+
+pub strings_at : (bytes : List ℕ) (at id : ℕ) (goal pat : List WSym) (fresh : Pairs) (found : List Pairs) (i : ℕ) (theta : Pairs)
+    → AllDiffer (variables_for bytes id) → are_concluded bytes id ≡ true → IsString (first_setting bytes at) goal → fresh ≡ fresh_for bytes 1 id → pat ≡ pattern bytes id
+    → All (λ u. applied u goal ≡ applied u pat) found → All (HasKeys goal pat) found → i < length found → theta ≡ get_or found i theta
+    → HasStrings bytes at (with_values theta fresh)
+strings_at bytes at id goal pat fresh found i theta differ h string f p sound keys l is =
+    let e : applied theta goal ≡ applied theta pat = let P : Pairs → Type 0 = λ u. applied u goal ≡ applied u pat in subst P (sym is) (sound i theta l) in
+    let k : HasKeys goal pat theta = subst (HasKeys goal pat) (sym is) (keys i theta l) in
+    subst (λ s. HasStrings bytes at (with_values theta s)) (sym f)
+    (unifier_strings bytes at id theta goal differ h string (subst (λ s. HasKeys goal s theta) p k) (e ∙ ap (applied theta) p))
+
+pub lengths_at : (bytes : List ℕ) (at : ℕ) (sigma : Pairs) → HasStrings bytes at sigma → All (λ p. length p.1 ≤ most_symbols) sigma
+lengths_at bytes at sigma h k d l = (h k d l).short

@@ -31,3 +31,4 @@ pub mod TraceLemmas
 pub mod TraceSteps
 pub mod FoundValues
 pub mod FoundLists
+pub mod FoundProofs

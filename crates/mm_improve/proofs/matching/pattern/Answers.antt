@@ -10,6 +10,6 @@ use Rattle.mm_improve.proofs.matching.pattern.Goals as goal
 pub unreachable-requires : goal.unreachable-requires
 unreachable-requires c =
     let failed : TooLongOrMemory → Result (List WSym) TooLongOrMemory = λ f. Err f in
-    let long = subst (λ (f : TooLongOrMemory). IsApplied (failed f) (applied c.args.fresh.now c.in_ok-conclusion.conclusion)) c.in-Err-TooLong.field-0-is (c.in-Err-TooLong.ensures tt) in
+    let long = subst (λ (f : TooLongOrMemory). IsApplied (failed f) (applied c.args.fresh.now c.in_ok-conclusion.conclusion)) c.in-Err-TooLong.field-0-is c.in-Err-TooLong.ensures in
     let same = ap (λ (s : Pairs). applied s c.in_ok-conclusion.conclusion) c.requires.fresh ∙ ap (applied _) c.in_ok-conclusion.ensures in
     pattern_short c.args.db.now c.args.id.0 (subst (λ (s : List WSym). most_symbols < length s) same long)
