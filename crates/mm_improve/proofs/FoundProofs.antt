@@ -1,6 +1,7 @@
 -- The proof of a goal at a depth, by the first use that serves.
 use Rattle.std.proofs.Common.{◌≡◌, ◌≤◌, ◌<◌, ◌-◌, ℕ, zero, suc, Bool, true, false, ◌&&◌, cond, List, [], ◌∷◌, Option, None, Some, map, length, get_or, nat_lt, refl, sym, ◌∙◌, ap, subst, arith, if◌then◌else◌}
 use Rattle.std.specs.List.{list_all}
+use Rattle.std.specs.Option.{is_some}
 use Rattle.std.proofs.lemmas.Bool.{false≢true, true≢false, le-ltb, lt-ltb}
 use Rattle.mm_scope.specs.Contents.{stated_at}
 use Rattle.mm_stated.specs.Stated.{is_essential}
@@ -35,7 +36,11 @@ all_there-all {X} {A} f (x ∷ xs) = by (f x) (all_there-all f xs)
   where
     by : (o : Option A) → is_there (all_there (map f xs)) ≡ list_all (λ x. is_there (f x)) xs → is_there (all_there (o ∷ map f xs)) ≡ (is_there o && list_all (λ x. is_there (f x)) xs)
     by None h = refl
-    by (Some a) h = there-on (λ as. a ∷ as) (all_there (map f xs)) ∙ h
+    by (Some a) h = there-on (λ ys. a ∷ ys) (all_there (map f xs)) ∙ h
+
+pub some-there : {A : Type 0} (o : Option A) → is_some o ≡ is_there o
+some-there None = refl
+some-there (Some a) = refl
 
 -- the first of a list whose option is there, by the first that passes
 chained : {X A : Type 0} → (X → Option A) → Option X → Option A
@@ -43,6 +48,7 @@ chained f None = None
 chained f (Some x) = f x
 
 first_there-first : {X A : Type 0} (f : X → Option A) (xs : List X) → first_there (map f xs) ≡ chained f (first (λ x. is_there (f x)) xs)
+unfolding chained
 first_there-first f [] = refl
 first_there-first {X} {A} f (x ∷ xs) = by (f x) refl (first_there-first f xs)
   where
