@@ -1,6 +1,6 @@
 //! Filling the table.
 
-ghost use Rattle.std.specs.Prelude.{◌≡◌, ◌<◌, ◌≤◌, ℕ, suc, [], ◌&&◌, not, length, slice_index_or, IfOk, OnOk, MatchOption, Some, None};
+ghost use Rattle.std.specs.Prelude.{◌≡◌, ◌<◌, ◌≤◌, ℕ, suc, [], ◌&&◌, not, length, slice_index_or, All, IfOk, IfSome, OnOk, MatchOption, Some, None};
 ghost use Rattle.mm_subst.specs.declared.symbol.WSym.{WSym};
 ghost use Rattle.mm_unify.specs.Parts.{part};
 ghost use Rattle.mm_improve.specs.Options.{is_there, on};
@@ -94,6 +94,27 @@ fn able(alloc: Global, rules: &Rules, symbol: WSym) -> Result<Vec<usize>, Memory
         }
     }
     Ok(numbers)
+}
+
+/// The assertions that can match a string with a first symbol.
+#[derive(Drop)]
+struct Able {
+    symbol: WSym,
+    numbers: Vec<usize>,
+}
+
+/// What is known already of a first symbol.
+fn known_for<'a>(rules: &Rules, known: &'a [Able], symbol: WSym) -> Option<&'a Able>
+    requires able { All (λ a. AreAble rules.now a.symbol a.numbers.items) known.now }
+    ensures { IfSome result (λ a. AreAble rules.now symbol a.now.numbers.items) }
+{
+    let _ = rules;
+    for able in known {
+        if able.symbol.is_same(symbol) {
+            return Some(able);
+        }
+    }
+    None
 }
 
 /// The better one of an entry and one more finding. There is no memory for 2^64 entries, so a rank fits.
@@ -209,20 +230,48 @@ fn fill_row(
     rules: &Rules,
     text: &[WSym],
     rows: &mut Rows,
+    able: &[usize],
     at: usize,
 ) -> Result<(), Memory>
     requires within { at < length text.now }
+    requires able { AreAble rules.now (slice_index_or text.now at no_symbol) able.now }
     requires rows { length rows.old ≡ length text.now }
     requires filled { IsFilled rules.now text.now rows.old at (suc at) }
     ensures long { OnOk result (length rows.new ≡ length rows.old) }
     ensures filled { IfOk result (λ _. IsFilled rules.now text.now rows.new at (suc (length text.now))) }
 {
-    let able = able(alloc, rules, text[at])?;
-    let mut end = next_cell(rules, text, rows, able.as_slice(), at, at);
+    let mut end = next_cell(rules, text, rows, able, at, at);
     while end <= text.len() {
-        fill_cell(alloc, rules, text, rows, able.as_slice(), at, end)?;
-        end = next_cell(rules, text, rows, able.as_slice(), at, end);
+        fill_cell(alloc, rules, text, rows, able, at, end)?;
+        end = next_cell(rules, text, rows, able, at, end);
     }
+    Ok(())
+}
+
+/// Fills the row of a place, and keeps which assertions can begin there for other places with the same symbol.
+fn fill_next_row(
+    alloc: Global,
+    rules: &Rules,
+    text: &[WSym],
+    rows: &mut Rows,
+    known: &mut Vec<Able>,
+    at: usize,
+) -> Result<(), Memory>
+    requires within { at < length text.now }
+    requires able { All (λ a. AreAble rules.now a.symbol a.numbers.items) known.old.items }
+    requires rows { length rows.old ≡ length text.now }
+    requires filled { IsFilled rules.now text.now rows.old at (suc at) }
+    ensures able { IfOk result (λ _. All (λ a. AreAble rules.now a.symbol a.numbers.items) known.new.items) }
+    ensures long { OnOk result (length rows.new ≡ length rows.old) }
+    ensures filled { IfOk result (λ _. IsFilled rules.now text.now rows.new at (suc (length text.now))) }
+{
+    let symbol = text[at];
+    if let Some(able) = known_for(rules, known.as_slice(), symbol) {
+        return fill_row(alloc, rules, text, rows, able.numbers.as_slice(), at);
+    }
+    let numbers = able(alloc, rules, symbol)?;
+    fill_row(alloc, rules, text, rows, numbers.as_slice(), at)?;
+    known.push(Able { symbol, numbers })?;
     Ok(())
 }
 
@@ -232,10 +281,11 @@ pub fn chart(alloc: Global, rules: &Rules, text: &[WSym]) -> Result<Rows, Memory
     ensures placed { IfOk result (λ rows. ArePlaced text.now rows) }
 {
     let mut rows = Rows::empty(alloc, text.len())?;
+    let mut known = Vec::new(alloc);
     let mut at = text.len();
     while at > 0 {
         at -= 1;
-        fill_row(alloc, rules, text, &mut rows, at)?;
+        fill_next_row(alloc, rules, text, &mut rows, &mut known, at)?;
     }
     Ok(rows)
 }

@@ -11,8 +11,8 @@ loop-at-init c = record {
   filled = filled_start c.args.rules.now c.args.text.now c.in_ok-rows.rows c.in_ok-rows.ensures;
 }
 
-pub fill_row-requires-clause-filled : goal.fill_row-requires-clause-filled
-fill_row-requires-clause-filled c =
+pub fill_next_row-requires-clause-filled : goal.fill_next_row-requires-clause-filled
+fill_next_row-requires-clause-filled c =
     let p = c.loop-at-test.true in
     filled_row c.args.rules.now c.args.text.now c.loop-at.rows (c.loop-at.at - 1) c.loop-at.at (suc (length c.args.text.now)) (omega arith) refl c.loop-at.invariant.filled
 
