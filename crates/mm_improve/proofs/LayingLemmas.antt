@@ -49,20 +49,20 @@ steps-laid : (old new : Plan) (xs : List Plain) (left : ℕ) → AreLaid old xs 
 steps-laid old new xs left h = ap (sum_by size_of) h.standing ∙ sum_by-append size_of (grove_of old).standing xs
 
 -- where one of them is not laid, the step over all isn't either
-pub not_laid : {A B : Type 0} (old mid new : Plan) (target : List WSym) (id : ℕ) (sigma : Pairs) (xs : List Plain) (i k left : ℕ) (d : Plain) (f : ImproveFault) → i < length xs → AreLaid old (take i xs) k mid → left ≡ suc k →
-    LaysTree {A} mid (get_or xs i d) k (Err f) new → LaysTree {B} old (known target id sigma xs) left (Err f) new
-not_laid old mid new target id sigma xs i k left d TooManySteps l h e f =
+pub not_laid : (A B : Type 0) (old mid new : Plan) (target : List WSym) (id : ℕ) (sigma : Pairs) (xs : List Plain) (i k left : ℕ) (d : Plain) (f : ImproveFault) → i < length xs → AreLaid old (take i xs) k mid → left ≡ suc k →
+    LaysTree {A = A} mid (get_or xs i d) k (Err f) new → LaysTree {A = B} old (known target id sigma xs) left (Err f) new
+not_laid A B old mid new target id sigma xs i k left d TooManySteps l h e f =
     let a = steps-laid old mid (take i xs) k h in
     let b = sum_by_push size_of (take i xs) (get_or xs i d) in
     let g = ap (sum_by size_of) (take_more xs i d l) in
     let m = sum_by-take-le size_of xs (i + 1) in
     let n = size_of-known target id sigma xs in
     omega (arith, a, b, g, m, n, f)
-not_laid old mid new target id sigma xs i k left d TooDeep l h e f =
+not_laid A B old mid new target id sigma xs i k left d TooDeep l h e f =
     let a = height-at xs i d l in
     let n = height_of-known target id sigma xs in
     omega (arith, a, n, e, f)
-not_laid old mid new target id sigma xs i k left d Memory l h e f = tt
+not_laid A B old mid new target id sigma xs i k left d Memory l h e f = tt
 
 pub enough : (old mid : Plan) (xs : List Plain) (k : ℕ) → AreLaid old xs k mid → length xs ≤ length (grove_of mid).standing
 enough old mid xs k h = omega (arith, ap length h.standing, length-append (grove_of old).standing xs)

@@ -1,10 +1,11 @@
 -- What is known of the chosen proof of a goal.
-use Rattle.std.specs.Prelude.{ℕ, ◌≡◌, ◌&&◌, ◌==◌, Bool, true, List, [], ◌∷◌, length, Option, None, Some}
+use Rattle.std.specs.Prelude.{ℕ, ◌≡◌, ◌&&◌, Bool, true, false, List, [], ◌∷◌, Option, None, Some}
 use Rattle.mm_subst.specs.declared.symbol.WSym.{WSym}
 use Rattle.mm_subst.specs.Symbols.{is_same}
 use Rattle.mm_plain.specs.Shape.{known}
 use Rattle.mm_improve.specs.declared.choice.Choice.{Choice}
 use Rattle.mm_improve.specs.declared.choice.Choice.TheVariants.{Nothing, Bare, Charted}
+use Rattle.mm_improve.specs.declared.grammar.Item.{Item}
 use Rattle.mm_improve.specs.Options.{or_else, on, first}
 use Rattle.mm_improve.specs.Assertions.{Terms}
 use Rattle.mm_improve.specs.Items.{Assertion, Grammar, Hypothesis, same_goal}
@@ -17,9 +18,13 @@ use Rattle.mm_improve.specs.Traces.{IsRanked, tree_at, whole}
 abbrev pub bare_hypothesis : List Hypothesis → WSym → Option ℕ
 bare_hypothesis hs code = on (λ h. h.id) (first (λ h. same_goal (code, []) h.goal) hs)
 
--- an assertion whose conclusion is a typecode alone
+abbrev pub has_no_items : List Item → Bool
+has_no_items [] = true
+has_no_items (x ∷ xs) = false
+
+-- whether the conclusion of an assertion is a typecode alone
 abbrev pub is_bare : WSym → Assertion → Bool
-is_bare code a = is_same a.code code && length a.items == 0
+is_bare code a = is_same a.code code && has_no_items a.items
 
 abbrev pub bare_assertion : List Assertion → WSym → Option ℕ
 bare_assertion xs code = on (λ a. a.id) (first (is_bare code) xs)

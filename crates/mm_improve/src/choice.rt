@@ -1,13 +1,14 @@
 //! What is known of the chosen proof of a goal.
 
-ghost use Rattle.std.specs.Prelude.{◌≡◌, ◌<◌, ◌∷◌, IfOk, length};
-ghost use Rattle.mm_scope.specs.Contents.{labels_of};
+ghost use Rattle.std.specs.Prelude.{◌≡◌, ◌∷◌, [], IfOk, None};
 ghost use Rattle.mm_plain.specs.Valid.{IsString, first_setting};
 ghost use Rattle.mm_improve.specs.Choices.{Chooses, bare_assertion, bare_hypothesis, bare_id};
+ghost use Rattle.mm_improve.specs.Grammars.{grammar_of};
 ghost use Rattle.mm_improve.specs.Laying.{IsReady};
+ghost use Rattle.mm_improve.specs.Proving.{chosen_tree};
 ghost use Rattle.mm_improve.specs.Searches.{terms};
 
-use crate::filling::chart;
+use crate::database::{is_float_code, rules};
 use crate::grammar::{Hypothesis, Pattern, Rules};
 use crate::prover::Prover;
 use crate::table::Rows;
@@ -60,6 +61,37 @@ fn bare(rules: &Rules, code: WSym) -> Option<u32>
     }
 }
 
+/// The same among all that may be used. It takes the time to read the database where that isn't kept.
+fn bare_for(
+    alloc: Global,
+    db: &Database,
+    prover: &Prover,
+    code: WSym,
+) -> Result<Option<u32>, Memory>
+    requires { IsReady db.now prover.now }
+    ensures { IfOk result (λ o. o ≡ bare_id (grammar_of (terms db.now prover.now.search)) code) }
+{
+    if is_float_code(db, code) {
+        return Ok(bare(&prover.parts, code));
+    }
+    match &prover.all {
+        Some(all) => Ok(bare(all, code)),
+        None => {
+            let all = rules(alloc, db, prover.search)?;
+            Ok(bare(&all, code))
+        }
+    }
+}
+
+/// An empty goal has no chosen proof, since each statement has a typecode.
+pub fn empty_has_none(db: &Database, prover: &Prover)
+    requires { IsReady db.now prover.now }
+    ensures { chosen_tree (terms db.now prover.now.search) [] ≡ None }
+{
+    let _ = prover;
+    mandatory_variables_differ(db.bytes());
+}
+
 /// What is known of the chosen proof of a typecode and a text.
 pub fn choose(
     alloc: Global,
@@ -74,12 +106,12 @@ pub fn choose(
 {
     mandatory_variables_differ(db.bytes());
     if text.is_empty() {
-        return Ok(match bare(&prover.rules, code) {
-            Some(id) => Choice::Bare(id),
-            None => Choice::Nothing,
-        });
+        return match bare_for(alloc, db, prover, code)? {
+            Some(id) => Ok(Choice::Bare(id)),
+            None => Ok(Choice::Nothing),
+        };
     }
-    let rows = chart(alloc, &prover.rules, text)?;
+    let rows = prover.chart(alloc, db, code, text)?;
     if rows.has(0, code, text.len()) {
         Ok(Choice::Charted(rows))
     } else {

@@ -16,7 +16,7 @@ ghost use Rattle.mm_improve.specs.Searches.{terms};
 ghost use Rattle.mm_improve.specs.Steps.{IsStep, Pushes, values_by};
 ghost use Rattle.mm_improve.specs.Traces.{IsRanked, string_of, tree_at};
 
-use crate::choice::{Choice, choose};
+use crate::choice::{Choice, choose, empty_has_none};
 use crate::database::Search;
 use crate::fault::ImproveFault;
 use crate::fitting::value_of;
@@ -202,8 +202,8 @@ pub fn has_chosen(
     requires string { IsString (first_setting db.now prover.now.search.at.0) goal.now }
     ensures { IfOk result (λ b. b ≡ is_there (chosen_tree (terms db.now prover.now.search) goal.now)) }
 {
-    mandatory_variables_differ(db.bytes());
     let Some((code, text)) = goal.symbols().split_first() else {
+        empty_has_none(db, prover);
         return Ok(false);
     };
     match choose(alloc, db, prover, *code, text)? {
@@ -226,8 +226,8 @@ pub fn chosen_size(
     requires string { IsString (first_setting db.now prover.now.search.at.0) goal.now }
     ensures { IsCounted (chosen_tree (terms db.now prover.now.search) goal.now) result }
 {
-    mandatory_variables_differ(db.bytes());
     let Some((code, text)) = goal.symbols().split_first() else {
+        empty_has_none(db, prover);
         return Ok(0);
     };
     match choose(alloc, db, prover, *code, text)? {
@@ -258,8 +258,8 @@ pub fn lay_chosen(
     requires plan { IsPlan plan.old }
     ensures { LaysFound plan.old (chosen_tree (terms db.now prover.now.search) goal.now) left result plan.new }
 {
-    mandatory_variables_differ(db.bytes());
     let Some((code, text)) = goal.symbols().split_first() else {
+        empty_has_none(db, prover);
         return Ok(false);
     };
     match choose(alloc, db, prover, *code, text)? {

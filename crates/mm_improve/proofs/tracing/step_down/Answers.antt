@@ -12,7 +12,7 @@ push_kids-requires c =
 pub returns-in_ok-push_kids-in-Some : goal.returns-in_ok-push_kids-in-Some
 returns-in_ok-push_kids-in-Some c =
     let differ = subst VariablesDiffer c.bytes.ensures.value c.mandatory_variables_differ.ensures in
-    over (terms c.args.db.now c.args.search) differ c.requires.own c.args.goal c.args.text.now c.args.rows.now c.requires.answers c.requires.placed c.args.part c.in-Some.entry.now c.in-Some.ensures c.args.stack.now.items c.push_kids.new.stack.items c.in_ok-push_kids.ensures.kids
+    over (terms c.args.db.now c.args.search) differ c.requires.own c.args.goal c.args.text.now c.args.rows.now c.requires.answers c.requires.placed c.args.part c.in-Some.entry.now c.in-Some.ensures c.args.stack.now.items c.push_kids.new.stack.items c.in_ok-push_kids-in-Some.ensures.kids
 
 pub returns-in-None : goal.returns-in-None
 returns-in-None c =
