@@ -99,7 +99,10 @@ module _ (c : Terms) (differ : VariablesDiffer c.bytes) (low : c.at < length (la
   answer (suc r) = later r ∙ ap (λ (o : Option Chosen). or_else o (on (by_use (suc r)) (on bare_use first_bare))) (answer r) ∙ by r (first (λ (h : Hypothesis). same_goal g h.goal) G.hypotheses) first_bare
     where
       by : (r : ℕ) (o : Option Hypothesis) (a : Option Assertion) → or_else (limited r (or_else (on by_hypothesis o) (on (by_use 1) (on bare_use a)))) (on (by_use (suc r)) (on bare_use a)) ≡ limited (suc r) (or_else (on by_hypothesis o) (on (by_use 1) (on bare_use a)))
-      by r (Some h) a = refl
+      by r (Some h) a =
+          let x : Chosen = by_hypothesis h in
+          ap (λ (b : Bool). or_else (cond b (Some x) None) (on (by_use (suc r)) (on bare_use a))) (le-leb 0 r (omega arith))
+          ∙ sym (ap (λ (b : Bool). cond b (Some x) None) (le-leb 0 (suc r) (omega arith)))
       by r None None = refl
       by zero None (Some a) = refl
       by (suc r) None (Some a) =

@@ -1,7 +1,7 @@
 -- Trees that are laid one behind the other, and a step over them.
 use Rattle.std.proofs.Common.{◌≡◌, ◌≤◌, ◌<◌, ◌+◌, ◌-◌, ℕ, zero, suc, List, [], ◌∷◌, ◌++◌, Result, Ok, Err, map, take, drop, length, get_or, max, refl, sym, ◌∙◌, ap, arith, subst, append_assoc, append-nil, length-append}
 use Rattle.std.specs.List.{sum_by}
-use Rattle.std.proofs.lemmas.List.{length-map, map-append, take_all, take_more}
+use Rattle.std.proofs.lemmas.List.{length-map, map-append, take-map, get_or-map, take_all, take_more}
 use Rattle.std.proofs.lemmas.List.Sums.{sum_by-append, sum_by-take-le, sum_by_push}
 use Rattle.std.proofs.Math.Seq.{take-append_seam, drop-append_seam}
 use Rattle.mm_subst.specs.declared.symbol.WSym.{WSym}
@@ -14,6 +14,7 @@ use Rattle.mm_tree.specs.Plans.{IsPlan, grove_of}
 use Rattle.mm_tree.specs.declared.plan.Plan.{Plan}
 use Rattle.mm_improve.specs.declared.fault.ImproveFault.{ImproveFault}
 use Rattle.mm_improve.specs.declared.fault.ImproveFault.TheVariants.{TooManySteps, TooDeep, Memory}
+use Rattle.mm_improve.specs.declared.table.Part.{Part}
 use Rattle.mm_improve.specs.Laying.{IsLaid, LaysTree, steps_in}
 use Rattle.mm_improve.specs.Steps.{IsPushed, Pushes}
 
@@ -85,3 +86,21 @@ over_all old mid new target id sigma xs k left takes (Err TooManySteps) h e t p 
     omega (arith, p, steps-laid old mid xs k h, size_of-known target id sigma xs)
 over_all old mid new target id sigma xs k left takes (Err TooDeep) h e t p = absurd p
 over_all old mid new target id sigma xs k left takes (Err Memory) h e t p = tt
+
+-- ## The trees of parts
+
+pub one_laid : (T : Part → Plain) (old mid new : Plan) (kids : List Part) (i k : ℕ) (d : Part) → i < length kids → AreLaid old (map T (take i kids)) k mid → IsLaid mid (T (get_or kids i d)) k new → AreLaid old (map T (take (i + 1) kids)) k new
+one_laid T old mid new kids i k d l h g =
+    subst (λ (xs : List Plain). AreLaid old xs k new) (sym (ap (map T) (take_more kids i d l) ∙ map-append T (take i kids) (get_or kids i d ∷ [])))
+    (laid_more old mid new (map T (take i kids)) (T (get_or kids i d)) k h g)
+
+pub kid_fault : (A B : Type 0) (T : Part → Plain) (old mid new : Plan) (x : Plain) (target : List WSym) (id : ℕ) (sigma : Pairs) (kids : List Part) (i k left : ℕ) (d : Part) (f : ImproveFault) → x ≡ known target id sigma (map T kids) → i < length kids →
+    AreLaid old (map T (take i kids)) k mid → left ≡ suc k → LaysTree {A = A} mid (T (get_or kids i d)) k (Err f) new → LaysTree {A = B} old x left (Err f) new
+kid_fault A B T old mid new x target id sigma kids i k left d f is l h e g =
+    subst (λ (y : Plain). LaysTree {A = B} old y left (Err f) new) (sym is)
+    (not_laid A B old mid new target id sigma (map T kids) i k left (T d) f (omega (arith, l, length-map kids T))
+    (subst (λ (xs : List Plain). AreLaid old xs k mid) (sym (take-map T i kids)) h) e
+    (subst (λ (y : Plain). LaysTree {A = A} mid y k (Err f) new) (sym (get_or-map T kids i d (T d) l)) g))
+
+pub all_kids : (T : Part → Plain) (old mid : Plan) (kids : List Part) (i k : ℕ) → length kids ≤ i → AreLaid old (map T (take i kids)) k mid → AreLaid old (map T kids) k mid
+all_kids T old mid kids i k l h = subst (λ (ps : List Part). AreLaid old (map T ps) k mid) (take_all i kids l) h

@@ -1,4 +1,6 @@
-use Rattle.std.proofs.Common.{◌∷◌, ◌∙◌, ap, ◌++◌, subst}
+use Rattle.std.proofs.Common.{◌∷◌, ◌++◌, List, ◌∙◌, ap, subst}
+use Rattle.mm_improve.specs.declared.table.Part.{Part}
+use Rattle.mm_improve.specs.Charts.{Noted}
 use Rattle.mm_improve.specs.Proving.{rank_limit}
 use Rattle.mm_improve.specs.Searches.{terms}
 use Rattle.mm_improve.specs.Traces.{kids_of}
@@ -19,4 +21,9 @@ unreachable-requires c =
     missing (terms c.args.db.now c.args.search) differ c.requires.own c.args.goal c.args.text.now c.args.rows.now c.requires.answers c.requires.placed c.args.part c.in-None.ensures (rank_limit c.args.db.now (c.args.goal ∷ c.args.text.now)) c.requires.ranked
 
 pub returns : goal.returns
-returns c = ?
+returns c =
+    let differ = subst VariablesDiffer c.bytes.ensures.value c.mandatory_variables_differ.ensures in
+    let e : Noted = c.in-Some.entry.now in
+    step (terms c.args.db.now c.args.search) differ c.requires.own c.args.goal c.args.text.now c.args.rows.now c.requires.answers c.requires.placed (rank_limit c.args.db.now (c.args.goal ∷ c.args.text.now)) c.args.part e c.in-Some.ensures c.requires.ranked
+    c.entry.inside.id c.in_ok-keys-in-Some.keys.items c.push_kids.new.stack.items (ap (λ (x : Noted). x.id) c.entry.view_is) c.in_ok-keys-in-Some.ensures.keys
+    (c.in_ok-keys-in-Some.ensures.kids ∙ ap (λ (xs : List Part). xs ++ kids_of c.args.db.now e) c.new-kids.ensures.items)
