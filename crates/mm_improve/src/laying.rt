@@ -263,8 +263,11 @@ pub fn lay_chosen(
         return Ok(false);
     };
     match choose(alloc, db, prover, *code, text)? {
-        Choice::Nothing => return Ok(false),
-        Choice::Bare(id) => lay_bare(alloc, goal, id, left, plan)?,
+        Choice::Nothing => Ok(false),
+        Choice::Bare(id) => {
+            lay_bare(alloc, goal, id, left, plan)?;
+            Ok(true)
+        }
         Choice::Charted(rows) => {
             let whole = Part {
                 code: *code,
@@ -273,7 +276,7 @@ pub fn lay_chosen(
             };
             let search = prover.search;
             lay_part(alloc, db, search, *code, text, &rows, whole, left, plan)?;
+            Ok(true)
         }
     }
-    Ok(true)
 }

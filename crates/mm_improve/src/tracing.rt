@@ -3,6 +3,7 @@
 ghost use Rattle.std.specs.Prelude.{◌≡◌, ◌<◌, ◌≤◌, ◌++◌, ◌∷◌, [], ℕ, true, map, length, IfOk, slice_index_or};
 ghost use Rattle.mm_scope.specs.Contents.{labels_of};
 ghost use Rattle.mm_plain.specs.Premises.{variables_for};
+ghost use Rattle.mm_plain.specs.Valid.{most_steps};
 ghost use Rattle.mm_improve.specs.Charts.{AreAnswersFor, ArePlaced};
 ghost use Rattle.mm_improve.specs.Grammars.{grammar_of, order_for, place, place_or_none};
 ghost use Rattle.mm_improve.specs.Items.{may_lead};
@@ -156,7 +157,8 @@ pub fn steps_back(
     requires answers { AreAnswersFor (grammar_of (terms db.now search)) code text.now rows.now }
     requires placed { ArePlaced text.now rows.now }
     requires ranked { IsRanked (terms db.now search) (rank_limit db.now (code ∷ text.now)) code text.now (whole code text.now) }
-    ensures { IsTraced (terms db.now search) (rank_limit db.now (code ∷ text.now)) text.now (whole code text.now) result }
+    ensures traced { IsTraced (terms db.now search) (rank_limit db.now (code ∷ text.now)) text.now (whole code text.now) result }
+    ensures few { IfOk result (λ t. length t ≤ most_steps) }
 {
     let mut parts = Vec::new(alloc);
     let mut stack = Vec::new(alloc);

@@ -9,4 +9,4 @@ abbrev pub decreases-lay_part : goal.decreases-lay_part
 decreases-lay_part l = l.left
 
 abbrev pub invariant-loop-kid : goal.invariant-loop-kid
-invariant-loop-kid l = AreLaid l.initial.plan (map (tree_at (terms l.db l.search) (rank_limit l.db (l.goal ∷ l.text)) l.text) (take l.kid-index l.step.kids.items)) (l.left - 1) l.plan
+invariant-loop-kid l = AreLaid l.initial.plan (map (tree_at (terms l.db l.search) (rank_limit l.db (l.goal ∷ l.text)) l.text) (take l.kid-index l.kid-items)) (l.left - 1) l.plan
