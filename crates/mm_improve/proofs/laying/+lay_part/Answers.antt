@@ -1,4 +1,4 @@
-use Rattle.std.proofs.Common.{◌≡◌, ◌<◌, ◌≤◌, ◌-◌, ◌∷◌, ℕ, suc, List, Unit, Result, Err, length, map, sym, ◌∙◌, ap, arith, subst}
+use Rattle.std.proofs.Common.{◌≡◌, ◌<◌, ◌≤◌, ◌-◌, ◌∷◌, ℕ, suc, List, Result, Err, length, map, sym, ◌∙◌, ap, arith, subst}
 use Rattle.std.proofs.lemmas.List.{length-map}
 use Rattle.std.proofs.lemmas.Result.{err_from_is_err_and}
 use Rattle.mm_subst.specs.declared.symbol.WSym.{WSym}
@@ -28,7 +28,7 @@ lay_part-requires t c =
     let r = rank_limit c.args.db.now (c.args.goal ∷ c.args.text.now) in
     let kids = c.deref-kid-items.result.now in
     let s = subst (λ (ps : List Part). IsStep k r c.args.goal c.args.text.now c.args.part c.in_ok-step.step.id c.in_ok-step.step.keys.items ps) (sym c.deref-kid-items.ensures.value) c.in_ok-step.ensures in
-    (omega (arith, c.if-left-eq0.false, c.decreases), c.requires.own, c.requires.answers, c.requires.placed, ranked-at k r c.args.goal c.args.text.now kids c.loop-kid.kid-index no_part s.ranked c.loop-kid-test.true, c.loop-kid.invariant.plan)
+    (omega (arith, c.if-left-eq0.false, c.decreases), (c.requires.own, (c.requires.answers, (c.requires.placed, (ranked-at k r c.args.goal c.args.text.now kids c.loop-kid.kid-index no_part s.ranked c.loop-kid-test.true, c.loop-kid.invariant.plan)))))
 
 pub returns-in_err-lay_part : goal.returns-in_err-lay_part
 returns-in_err-lay_part t c =

@@ -13,7 +13,7 @@ returns-in-Bare c =
     let k = terms c.args.db.now c.args.prover.now.search in
     let code = c.in-Some.code.now in
     let text = c.in-Some.text.now in
-    let is : c.args.goal.now ≡ code ∷ text = sym c.symbols.ensures ∙ c.in-Some.ensures.cases in
+    let is : c.args.goal.now ≡ code ∷ text = sym c.symbols.ensures ∙ c.in-Some.ensures.cases.0 in
     one_counted (chosen_tree k c.args.goal.now) (code ∷ text) c.in-Bare.field-0 (ap (chosen_tree k) is ∙ subst (Chooses k code text) c.in-Bare.is c.in_ok-choose.ensures)
 
 pub returns-in_ok-trace-in-Charted : goal.returns-in_ok-trace-in-Charted
@@ -22,7 +22,7 @@ returns-in_ok-trace-in-Charted c =
     let code = c.in-Some.code.now in
     let text = c.in-Some.text.now in
     let found = chosen_tree k c.args.goal.now in
-    let is : c.args.goal.now ≡ code ∷ text = sym c.symbols.ensures ∙ c.in-Some.ensures.cases in
+    let is : c.args.goal.now ≡ code ∷ text = sym c.symbols.ensures ∙ c.in-Some.ensures.cases.0 in
     let h = subst (Chooses k code text) c.in-Charted.is c.in_ok-choose.ensures in
     let parts = c.in_ok-trace-in-Charted.trace in
     let long : length parts ≡ c.len.result = sym (c.len.ensures ∙ c.trace.inside.parts.ok.0 ∙ ap length c.trace.view_is) in
