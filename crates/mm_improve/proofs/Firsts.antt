@@ -1,6 +1,7 @@
 -- The first of a list that passes, and what is found.
-use Rattle.std.proofs.Common.{◌≡◌, ℕ, List, [], ◌∷◌, ◌++◌, Option, None, Some, Bool, true, false, cond, ◌&&◌, refl, ◌∙◌, ap, arith, leb, inl, inr}
+use Rattle.std.proofs.Common.{◌≡◌, ◌+◌, ◌<◌, ◌≤◌, ℕ, List, [], ◌∷◌, ◌++◌, take, length, get_or, sym, Option, None, Some, Bool, true, false, cond, ◌&&◌, refl, ◌∙◌, ap, arith, leb, inl, inr}
 use Rattle.std.proofs.lemmas.Bool.{cases_lt, le-ltb, lt-ltb}
+use Rattle.std.proofs.lemmas.List.{take_all, take_more}
 use Rattle.mm_improve.specs.Options.{or_else, first}
 use Rattle.mm_improve.specs.Charts.{FindsAt, less}
 
@@ -44,3 +45,12 @@ FindsAt-skip r q xs ys (Some a) h k =
 
 pub at_max : (a b r : ℕ) → leb a r ≡ true → leb b r ≡ true → (leb a r && leb b r) ≡ true
 at_max a b r h k = rw (h, k) refl
+
+-- none among the first ones, and one more
+pub first_more : {A : Type 0} (p : A → Bool) (xs : List A) (i : ℕ) (d : A) → i < length xs → p (get_or xs i d) ≡ false → first p (take i xs) ≡ None → first p (take (i + 1) xs) ≡ None
+first_more p xs i d l n h =
+    ap (first p) (take_more xs i d l) ∙ first-append p (take i xs) (get_or xs i d ∷ []) ∙ or_else-none (first p (take i xs)) (first p (get_or xs i d ∷ [])) h
+    ∙ ap (λ (b : Bool). cond b (Some (get_or xs i d)) None) n
+
+pub first_end : {A : Type 0} (p : A → Bool) (xs : List A) (i : ℕ) → length xs ≤ i → first p (take i xs) ≡ None → first p xs ≡ None
+first_end p xs i l h = ap (first p) (sym (take_all i xs l)) ∙ h

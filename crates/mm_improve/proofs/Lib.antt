@@ -35,3 +35,8 @@ pub mod ProofUses
 pub mod ProofSteps
 pub mod ProofTrees
 pub mod FindsProofs
+pub mod StepLemmas
+pub mod LayingLemmas
+pub mod EmptyGoals
+pub mod Bare
+pub mod ChoiceLemmas

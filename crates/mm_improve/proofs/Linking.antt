@@ -128,7 +128,7 @@ module _ (c : Terms) (id : ℕ) (a : IsPlainAssertion c.bytes id) (code : WSym) 
   pub order_is : order_for c.bytes id ≡ order
   order_is = ap (λ (s : List WSym). seen_in keys [] (split s).1) a.statement
 
-  pattern_is : assertions.pattern c.bytes id ≡ d ∷ rest
+  pub pattern_is : assertions.pattern c.bytes id ≡ d ∷ rest
   pattern_is = ap (applied (fresh_from 1 keys)) a.statement ∙ applied-cons (fresh_from 1 keys) d a.text ∙ ap (λ (u : List WSym). u ++ rest) (ap (or_itself d) (fresh-constant 1 keys a.code))
 
   -- of a match

@@ -37,7 +37,7 @@ pub none_stated : (G : Grammar) (t : List WSym) (rows : Rows) (at to i : ℕ) �
 none_stated G t rows at to i l n code e =
     ap (on by_hypothesis) (sym (ap (first (λ (h : Hypothesis). same_goal (code, part t at to) h.goal)) (take_all i G.hypotheses l)) ∙ n code e)
 
-first_here : {X : Type 0} (q : X → Bool) (xs : List X) (i : ℕ) (d : X) → i < length xs → first q (take i xs) ≡ None → q (get_or xs i d) ≡ true → first q xs ≡ Some (get_or xs i d)
+pub first_here : {X : Type 0} (q : X → Bool) (xs : List X) (i : ℕ) (d : X) → i < length xs → first q (take i xs) ≡ None → q (get_or xs i d) ≡ true → first q xs ≡ Some (get_or xs i d)
 first_here q [] i d l n h = absurd (omega arith)
 first_here q (x ∷ xs) zero d l n h = ap (λ (b : Bool). cond b (Some x) (first q xs)) h
 first_here q (x ∷ xs) (suc i) d l n h = elim (cases_Bool (q x)) [

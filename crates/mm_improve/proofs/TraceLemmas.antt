@@ -30,7 +30,7 @@ map-map : {X Y Z : Type 0} (f : Y → Z) (g : X → Y) (xs : List X) → map f (
 map-map f g [] = refl
 map-map f g (x ∷ xs) = ap (λ ys. f (g x) ∷ ys) (map-map f g xs)
 
-goal-at : (t : List WSym) (ps : List Part) (k : ℕ) → get_or (goals_of t ps) k no_goal ≡ goal_of t (get_or ps k no_part)
+pub goal-at : (t : List WSym) (ps : List Part) (k : ℕ) → get_or (goals_of t ps) k no_goal ≡ goal_of t (get_or ps k no_part)
 goal-at t [] k = refl
 goal-at t (p ∷ ps) zero = refl
 goal-at t (p ∷ ps) (suc k) = goal-at t ps k
@@ -104,46 +104,60 @@ module _ (c : Terms) (differ : VariablesDiffer c.bytes) (low : c.at < length (la
         ranked_kids r e i code j q k to ns w.1 h.1,
       )
 
-  over_none : (r : ℕ) (p : Part) (e : Noted) → Entered p (Some e) → IsRanked c r goal t p → e.rank ≡ 0 → (old new : List Part) → new ≡ old ++ [] → IsOver c r goal t p old new
-  over_none r p e q h z old new a =
+  -- the tree of a part is a step of what its entry names, over the trees of the parts for its variables
+  pub record IsLayer (r : ℕ) (p : Part) (e : Noted) : Type 0 where
+    pub ranked : AllByRecursion (IsRanked c r goal t) (kids_of c.bytes e)
+    pub is : tree_at c r t p ≡ known (string_of t p) e.id (chosen_by c.bytes (meaning t e)).use_.sigma (map (tree_at c r t) (kids_of c.bytes e))
+
+  layer_none : (r : ℕ) (p : Part) (e : Noted) → Entered p (Some e) → IsRanked c r goal t p → e.rank ≡ 0 → IsLayer r p e
+  layer_none r p e q h z =
       let g = string_of t p in
       let none = no_parts c g (found e) (known_from p e q r h 0 (omega (arith, z))) in
+      let childless : kids_of c.bytes e ≡ [] = ap (λ (n : ℕ). if n == 0 then [] else map (kid e) (variables_for c.bytes e.id)) z in
       record {
-        kids = [];
-        added = a;
-        ranked = tt;
-        id = e.id;
-        sigma = (found e).use_.sigma;
-        is = unfolds c r g (found e) (known_from p e q r h r (low_rank p e q r h)) ∙ ap (λ gs. known g e.id (found e).use_.sigma (map (ranks.tree c r) gs)) none;
+        ranked = subst (AllByRecursion (IsRanked c r goal t)) (sym childless) tt;
+        is = unfolds c r g (found e) (known_from p e q r h r (low_rank p e q r h)) ∙ ap (λ gs. known g e.id (found e).use_.sigma (map (ranks.tree c r) gs)) none
+            ∙ sym (ap (λ (ks : List Part). known g e.id (found e).use_.sigma (map (tree_at c r t) ks)) childless);
       }
 
-  over_some : (r : ℕ) (p : Part) (e : Noted) → Entered p (Some e) → IsRanked c r goal t p → 0 < e.rank → (old new : List Part) → new ≡ old ++ map (kid e) (variables_for c.bytes e.id) → IsOver c r goal t p old new
-  over_some r p e q h l old new a =
+  layer_some : (r : ℕ) (p : Part) (e : Noted) → Entered p (Some e) → IsRanked c r goal t p → 0 < e.rank → IsLayer r p e
+  layer_some r p e q h l =
       let g = string_of t p in
       let keys = variables_for c.bytes e.id in
       let x = found e in
-      let sigma_is : x.use_.sigma ≡ sigma_of c.bytes e.id (goals_of t e.parts) = ap (λ (b : Bool). if b then [] else sigma_of c.bytes e.id (goals_of t e.parts)) (ne_eqb e.rank 0 (λ z. omega (arith, z, l))) in
+      let above : (e.rank == 0) ≡ false = ne_eqb e.rank 0 (λ z. omega (arith, z, l)) in
+      let kids_are : kids_of c.bytes e ≡ map (kid e) keys = ap (λ (b : Bool). if b then [] else map (kid e) keys) above in
+      let sigma_is : x.use_.sigma ≡ sigma_of c.bytes e.id (goals_of t e.parts) = ap (λ (b : Bool). if b then [] else sigma_of c.bytes e.id (goals_of t e.parts)) above in
       let k = are_kids c (are_plain c differ low) (are_stated c low) p.code (part t p.from p.to) (h.plain, h.short) (use_of e) (is_used p e q h.leads h.ordered h.within l) in
       let goals_are : parts c.bytes e.id x.use_.sigma ≡ map (λ n. string_of t (kid e n)) keys =
       ap (parts c.bytes e.id) sigma_is ∙ k.goals ∙ same_each keys in
       let now = known_from p e q r h r (low_rank p e q r h) in
       record {
-        kids = map (kid e) keys;
-        added = a;
-        ranked = ranked_kids r e p.from p.code p.to q k (leads (grammar_of c) (goal_of t p) (use_of e) goal (is_used p e q h.leads h.ordered h.within l)) keys k.within (subst (λ gs. AllByRecursion (λ g. is_there (ranks.chosen c r g) ≡ true) gs) goals_are (parts_there c r g x now));
-        id = e.id;
-        sigma = x.use_.sigma;
+        ranked = subst (AllByRecursion (IsRanked c r goal t)) (sym kids_are) (ranked_kids r e p.from p.code p.to q k (leads (grammar_of c) (goal_of t p) (use_of e) goal (is_used p e q h.leads h.ordered h.within l)) keys k.within (subst (λ gs. AllByRecursion (λ g. is_there (ranks.chosen c r g) ≡ true) gs) goals_are (parts_there c r g x now)));
         is = unfolds c r g x now ∙ ap (λ gs. known g e.id x.use_.sigma (map (ranks.tree c r) gs)) goals_are
-            ∙ ap (known g e.id x.use_.sigma) (map-map (ranks.tree c r) (λ n. string_of t (kid e n)) keys ∙ sym (map-map (tree_at c r t) (kid e) keys));
+            ∙ ap (known g e.id x.use_.sigma) (map-map (ranks.tree c r) (λ n. string_of t (kid e n)) keys ∙ sym (map-map (tree_at c r t) (kid e) keys))
+            ∙ sym (ap (λ (ks : List Part). known g e.id x.use_.sigma (map (tree_at c r t) ks)) kids_are);
       }
     where
       same_each : (ns : List ℕ) → map (λ n. joined (goal_for c.bytes (use_of e) n)) ns ≡ map (λ n. string_of t (kid e n)) ns
       same_each [] = refl
       same_each (n ∷ ns) = ap (λ s. s ∷ map (λ n. joined (goal_for c.bytes (use_of e) n)) ns) (ap joined (goal-at t e.parts (place_or_none (place (order_for c.bytes e.id) n)))) ∙ ap (λ ss. string_of t (kid e n) ∷ ss) (same_each ns)
 
-  pub over : (p : Part) (e : Noted) → Entered p (Some e) → (old new : List Part) → new ≡ old ++ kids_of c.bytes e → (r : ℕ) → IsRanked c r goal t p → IsOver c r goal t p old new
-  over p e q old new a r h = by e.rank refl
+  pub layer : (r : ℕ) (p : Part) (e : Noted) → Entered p (Some e) → IsRanked c r goal t p → IsLayer r p e
+  layer r p e q h = by e.rank refl
     where
-      by : (k : ℕ) → e.rank ≡ k → IsOver c r goal t p old new
-      by zero z = over_none r p e q h z old new (a ∙ ap (λ (n : ℕ). old ++ (if n == 0 then [] else map (kid e) (variables_for c.bytes e.id))) z)
-      by (suc k) z = over_some r p e q h (omega (arith, z)) old new (a ∙ ap (λ (b : Bool). old ++ (if b then [] else map (kid e) (variables_for c.bytes e.id))) (ne_eqb e.rank 0 (λ y. omega (arith, y, z))))
+      by : (k : ℕ) → e.rank ≡ k → IsLayer r p e
+      by zero z = layer_none r p e q h z
+      by (suc k) z = layer_some r p e q h (omega (arith, z))
+
+  pub over : (p : Part) (e : Noted) → Entered p (Some e) → (old new : List Part) → new ≡ old ++ kids_of c.bytes e → (r : ℕ) → IsRanked c r goal t p → IsOver c r goal t p old new
+  over p e q old new a r h =
+      let l = layer r p e q h in
+      record {
+        kids = kids_of c.bytes e;
+        added = a;
+        ranked = l.ranked;
+        id = e.id;
+        sigma = (found e).use_.sigma;
+        is = l.is;
+      }

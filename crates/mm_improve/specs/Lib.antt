@@ -10,3 +10,5 @@ pub mod Traces
 pub mod Narrow
 pub mod Laying
 pub mod Proofs
+pub mod Choices
+pub mod Steps

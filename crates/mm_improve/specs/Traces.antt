@@ -41,6 +41,10 @@ pub record IsRanked (c : Terms) (r : ℕ) (goal : WSym) (t : List WSym) (p : Par
 abbrev pub no_part : Part
 no_part = record { code = Const 0; from = 0; to = 0 }
 
+-- the variables of what an entry names; a hypothesis has none
+abbrev pub keys_of : List ℕ → Noted → List ℕ
+keys_of bytes e = if e.rank == 0 then [] else variables_for bytes e.id
+
 -- the parts for the hypotheses of what an entry names, in order; a hypothesis has none
 abbrev pub kids_of : List ℕ → Noted → List Part
 kids_of bytes e =

@@ -1,6 +1,7 @@
 //! The chosen proof of a goal: by an active hypothesis, or by the plain assertions that were stated before.
 #![tactic(auto)]
 
+mod choice;
 mod conclusion;
 mod database;
 mod fault;

@@ -3,12 +3,13 @@
 ghost use Rattle.std.specs.Prelude.{◌≡◌, ◌<◌, ◌≤◌, ◌++◌, ◌∷◌, [], ℕ, true, map, length, IfOk, slice_index_or};
 ghost use Rattle.mm_scope.specs.Contents.{labels_of};
 ghost use Rattle.mm_plain.specs.Premises.{variables_for};
+ghost use Rattle.mm_plain.specs.Valid.{most_steps};
 ghost use Rattle.mm_improve.specs.Charts.{AreAnswersFor, ArePlaced};
 ghost use Rattle.mm_improve.specs.Grammars.{grammar_of, order_for, place, place_or_none};
 ghost use Rattle.mm_improve.specs.Items.{may_lead};
 ghost use Rattle.mm_improve.specs.Proving.{rank_limit};
 ghost use Rattle.mm_improve.specs.Searches.{terms};
-ghost use Rattle.mm_improve.specs.Traces.{IsOver, IsRanked, IsTraced, kids_of, no_part, whole};
+ghost use Rattle.mm_improve.specs.Traces.{IsOver, IsRanked, IsTraced, keys_of, kids_of, no_part, whole};
 
 use crate::conclusion::{itemized, place_or_none};
 use crate::database::{Search, text_of};
@@ -60,18 +61,19 @@ fn push_each(
     Ok(())
 }
 
-/// Appends the parts for the hypotheses of what an entry names.
-fn push_kids(
+/// Appends the parts for the hypotheses of what an entry names, and answers its variables.
+pub fn push_kids(
     alloc: Global,
     db: &Database,
     entry: &Entry,
     stack: &mut Vec<Part>,
-) -> Result<(), Memory>
+) -> Result<Vec<u32>, Memory>
     requires { 0 < entry.now.rank → entry.now.id < length (labels_of db.now) }
-    ensures { IfOk result (λ _. stack.new.items ≡ stack.old.items ++ kids_of db.now entry.now) }
+    ensures kids { IfOk result (λ _. stack.new.items ≡ stack.old.items ++ kids_of db.now entry.now) }
+    ensures keys { IfOk result (λ v. v.items ≡ keys_of db.now entry.now) }
 {
     if entry.rank == 0 {
-        return Ok(());
+        return Ok(Vec::new(alloc));
     }
     let keys = variables_for(alloc, db, StmtId(entry.id))?;
     let order = order_of(alloc, db, StmtId(entry.id), keys.as_slice())?;
@@ -80,7 +82,8 @@ fn push_kids(
         order.as_slice(),
         entry.parts.as_slice(),
         stack,
-    )
+    )?;
+    Ok(keys)
 }
 
 /// Appends parts over whose trees the tree of a part is one step.
@@ -107,7 +110,10 @@ fn step_down(
     let _ = goal;
     let _ = text;
     match rows.find(part.from, part.code, part.to) {
-        Some(entry) => push_kids(alloc, db, entry, stack),
+        Some(entry) => {
+            push_kids(alloc, db, entry, stack)?;
+            Ok(())
+        }
         None => Ok(()),
     }
 }
@@ -151,7 +157,8 @@ pub fn steps_back(
     requires answers { AreAnswersFor (grammar_of (terms db.now search)) code text.now rows.now }
     requires placed { ArePlaced text.now rows.now }
     requires ranked { IsRanked (terms db.now search) (rank_limit db.now (code ∷ text.now)) code text.now (whole code text.now) }
-    ensures { IsTraced (terms db.now search) (rank_limit db.now (code ∷ text.now)) text.now (whole code text.now) result }
+    ensures traced { IsTraced (terms db.now search) (rank_limit db.now (code ∷ text.now)) text.now (whole code text.now) result }
+    ensures few { IfOk result (λ t. length t ≤ most_steps) }
 {
     let mut parts = Vec::new(alloc);
     let mut stack = Vec::new(alloc);

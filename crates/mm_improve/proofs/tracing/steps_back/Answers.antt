@@ -21,8 +21,8 @@ loop-init c =
       left = subst (λ s. AreLeft k r c.args.code c.args.text.now w s c.new-parts.result.items) (sym stack) (subst (AreLeft k r c.args.code c.args.text.now w (w ∷ [])) (sym c.new-parts.ensures.items) (begun k r c.args.code c.args.text.now w c.requires.ranked));
     }
 
-pub returns-in_default : goal.returns-in_default
-returns-in_default c =
+pub returns-in_default-clause-traced : goal.returns-in_default-clause-traced
+returns-in_default-clause-traced c =
     at_end (terms c.args.db.now c.args.search) (rank_limit c.args.db.now (c.args.code ∷ c.args.text.now)) c.args.code c.args.text.now (whole c.args.code c.args.text.now) c.loop.stack.items c.loop.parts.items
     (empty-or c.loop.stack.items (grind (arith, c.pop.ensures, c.in_default.is, c.in_default.ensures))) c.loop.invariant.left
 
@@ -61,12 +61,12 @@ loop-preserved c =
       left = subst (AreLeft k r c.args.code c.args.text.now w c.step_down.new.stack.items) (sym done) (one_more k r c.args.code c.args.text.now w c.pop.new.self.items p c.loop.parts.items c.step_down.new.stack.items left (c.in_ok-step_down.ensures r ranked));
     }
 
-pub returns-then-is_empty : goal.returns-then-is_empty
-returns-then-is_empty c =
+pub returns-then-is_empty-clause-traced : goal.returns-then-is_empty-clause-traced
+returns-then-is_empty-clause-traced c =
     at_end (terms c.args.db.now c.args.search) (rank_limit c.args.db.now (c.args.code ∷ c.args.text.now)) c.args.code c.args.text.now (whole c.args.code c.args.text.now) c.loop.stack.items c.loop.parts.items
     (empty-or c.loop.stack.items (grind (arith, c.is_empty.ensures, c.if-is_empty.true))) c.loop.invariant.left
 
-pub returns-else-is_empty : goal.returns-else-is_empty
-returns-else-is_empty c =
+pub returns-else-is_empty-clause-traced : goal.returns-else-is_empty-clause-traced
+returns-else-is_empty-clause-traced c =
     too_many (terms c.args.db.now c.args.search) (rank_limit c.args.db.now (c.args.code ∷ c.args.text.now)) c.args.code c.args.text.now (whole c.args.code c.args.text.now) c.loop.stack.items c.loop.parts.items 1000000
     (grind (arith, c.is_empty.ensures, c.if-is_empty.false)) (grind (arith, c.loop.invariant.long, c.loop-test.false, c.loop.auto)) c.loop.invariant.left
