@@ -32,3 +32,4 @@ pub mod TraceSteps
 pub mod FoundValues
 pub mod FoundLists
 pub mod FoundProofs
+pub mod FoundKids
