@@ -33,3 +33,4 @@ pub mod FoundValues
 pub mod FoundLists
 pub mod FoundProofs
 pub mod FoundKids
+pub mod FoundLays
