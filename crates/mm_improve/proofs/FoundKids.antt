@@ -143,14 +143,6 @@ module _ (c : Terms) (d : ℕ) (u : Use) (serves : serves_at c d u ≡ true) whe
   laid-steps : (old new : Plan) (xs : List Plain) → (grove_of new).standing ≡ (grove_of old).standing ++ xs → steps_in new ≡ steps_in old + sum_by size_of xs
   laid-steps old new xs e = ap (sum_by size_of) e ∙ sum_by-append size_of (grove_of old).standing xs
 
-  -- nothing is laid yet
-  pub laid-none : (old : Plan) (left : ℕ) → IsPlan old → AreLaid old (take 0 trees) left old
-  laid-none old left plan = record { plan = plan; standing = sym (append-nil (grove_of old).standing); low = omega arith }
-    where
-      append-nil : (xs : List Plain) → xs ++ [] ≡ xs
-      append-nil [] = refl
-      append-nil (x ∷ xs) = ap (λ ys. x ∷ ys) (append-nil xs)
-
   laid-found : (old new : Plan) (o : Option Plain) (x : Plain) (b : Bool) (left : ℕ) → o ≡ Some x → LaysFound old o left (Ok b) new → IsLaid old x left new
   laid-found old new o x b left e h = let P : Option Plain → Type 0 = λ o. LaysFound old o left (Ok b) new in (subst P e h).1
 
@@ -170,13 +162,14 @@ module _ (c : Terms) (d : ℕ) (u : Use) (serves : serves_at c d u ≡ true) whe
         low = subst (λ xs. greatest (map height_of xs) ≤ left) (sym more) (low-more (take i trees) x left a.low laid.low);
       }
 
-  pub lay-fails : (old now new : Plan) (i left : ℕ) (f : ImproveFault) → i < length (premise_ids c.bytes u.id) → AreLaid old (take i trees) left now → LaysFound now (here i) left (Err f) new → LaysTrees {A = Unit {0}} old trees left (Err f) new
-  lay-fails old now new i left f l a h =
+  pub lay-fails : {A : Type 0} (old now new : Plan) (i left : ℕ) (r : Result A ImproveFault) (f : ImproveFault) → r ≡ Err f → i < length (premise_ids c.bytes u.id) → AreLaid old (take i trees) left now → LaysFound now (here i) left (Err f) new → LaysTrees {A = A} old trees left r new
+  lay-fails {A} old now new i left r f e l a h =
       let x = get_or trees i no_tree in
       let small : i < length trees = omega (arith, l, many-kids c d u serves) in
-      by f (failed-found now new (here i) x f left (kid-at c d u serves i l) h) small
+      let P : Result A ImproveFault → Type 0 = λ r. LaysTrees {A = A} old trees left r new in
+      subst P (sym e) (by f (failed-found now new (here i) x f left (kid-at c d u serves i l) h) small)
     where
-      by : (f : ImproveFault) → LaysTree {A = Bool} now (get_or trees i no_tree) left (Err f) new → i < length trees → LaysTrees {A = Unit {0}} old trees left (Err f) new
+      by : (f : ImproveFault) → LaysTree {A = Bool} now (get_or trees i no_tree) left (Err f) new → i < length trees → LaysTrees {A = A} old trees left (Err f) new
       by TooManySteps k small = omega (arith, k, laid-steps old now (take i trees) a.standing, sum-at trees i small)
       by TooDeep k small = height-at trees i left small k
       by Memory k small = tt
@@ -195,19 +188,16 @@ module _ (c : Terms) (d : ℕ) (u : Use) (serves : serves_at c d u ≡ true) whe
   pub found-ok : (g : List WSym) (old new : Plan) (left : ℕ) → IsLaid old (whole g) left new → LaysFound old (proof_by c (proof_of c d) g u) left (Ok true) new
   found-ok g old new left h = let P : Option Plain → Type 0 = λ o. LaysFound old o left (Ok true) new in subst P (sym (proof-known c d u serves g)) (refl, h)
 
-  pub none-left : (g : List WSym) (old new : Plan) → LaysFound old (proof_by c (proof_of c d) g u) 0 (Err TooDeep) new
-  none-left g old new = found-err g old new 0 TooDeep (omega (arith, height-known g))
+  pub none-left : (g : List WSym) (old new : Plan) (left : ℕ) → left ≡ 0 → LaysFound old (proof_by c (proof_of c d) g u) left (Err TooDeep) new
+  none-left g old new left e = found-err g old new left TooDeep (omega (arith, e, height-known g))
 
-  pub kids-fail : (g : List WSym) (old new : Plan) (n left : ℕ) (f : ImproveFault) → left ≡ n + 1 → LaysTrees {A = Unit {0}} old trees n (Err f) new → LaysFound old (proof_by c (proof_of c d) g u) left (Err f) new
-  kids-fail g old new n left TooManySteps e h = found-err g old new left TooManySteps (omega (arith, h, counted-known g u.id u.sigma trees))
-  kids-fail g old new n left TooDeep e h = found-err g old new left TooDeep (omega (arith, e, h, height-known g))
-  kids-fail g old new n left Memory e h = found-err g old new left Memory tt
+  pub kids-fail : {A : Type 0} (g : List WSym) (old new : Plan) (n left : ℕ) (f : ImproveFault) → left ≡ n + 1 → LaysTrees {A = A} old trees n (Err f) new → LaysFound old (proof_by c (proof_of c d) g u) left (Err f) new
+  kids-fail {A} g old new n left TooManySteps e h = found-err g old new left TooManySteps (omega (arith, h, counted-known g u.id u.sigma trees))
+  kids-fail {A} g old new n left TooDeep e h = found-err g old new left TooDeep (omega (arith, e, h, height-known g))
+  kids-fail {A} g old new n left Memory e h = found-err g old new left Memory tt
 
   pub no-room : (g : List WSym) (old now : Plan) (n left : ℕ) → AreLaid old trees n now → most_steps ≤ steps_in now → LaysFound old (proof_by c (proof_of c d) g u) left (Err TooManySteps) now
   no-room g old now n left a h = found-err g old now left TooManySteps (omega (arith, h, laid-steps old now trees a.standing, counted-known g u.id u.sigma trees))
-
-  pub memory-fails : (g : List WSym) (old now : Plan) (left : ℕ) → LaysFound old (proof_by c (proof_of c d) g u) left (Err Memory) now
-  memory-fails g old now left = found-err g old now left Memory tt
 
   pub takes-few : (old now : Plan) (n takes : ℕ) → AreLaid old trees n now → takes ≡ length (premise_ids c.bytes u.id) → takes ≤ length (grove_of now).standing
   takes-few old now n takes a e = omega (arith, e, many-kids c d u serves, ap length a.standing, length-append (grove_of old).standing trees)

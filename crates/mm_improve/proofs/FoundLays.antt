@@ -60,3 +60,11 @@ counts-none o n e = λ x h. absurd (let z : Some x ≡ None = sym h ∙ e in cc)
 
 pub counts-same : (o p : Option Plain) (r : Result ℕ ImproveFault) → o ≡ p → IsCounted o r → IsCounted p r
 counts-same o p r e h = subst (λ o. IsCounted o r) e h
+
+-- ## Faults that are handed on
+
+pub counts-err : (o : Option Plain) (r : Result ℕ ImproveFault) (f : ImproveFault) → r ≡ Err f → IsCounted o (Err f) → IsCounted o r
+counts-err o r f e h = subst (λ r. IsCounted o r) (sym e) h
+
+pub lays-err : (old new : Plan) (o : Option Plain) (left : ℕ) (r : Result Bool ImproveFault) (f : ImproveFault) → r ≡ Err f → LaysFound old o left (Err f) new → LaysFound old o left r new
+lays-err old new o left r f e h = let P : Result Bool ImproveFault → Type 0 = λ r. LaysFound old o left r new in subst P (sym e) h

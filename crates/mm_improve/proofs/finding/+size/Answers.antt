@@ -6,6 +6,7 @@ use Rattle.mm_plain.specs.declared.plain.Plain.{Plain}
 use Rattle.mm_plain.specs.Lengths.{is_long}
 use Rattle.mm_plain.specs.Premises.{premise_ids}
 use Rattle.mm_plain.specs.Valid.{IsString, first_setting}
+use Rattle.mm_tree.proofs.Rooms.{same_error}
 use Rattle.mm_improve.specs.Finding.{HasStrings, IsOwnUse}
 use Rattle.mm_improve.specs.Laying.{IsCounted}
 use Rattle.mm_improve.specs.Proving.{chosen_tree, premise_proof, proof_by, proof_of}
@@ -13,7 +14,7 @@ use Rattle.mm_improve.specs.Ranks.{Use}
 use Rattle.mm_improve.specs.Searches.{terms}
 use Rattle.mm_improve.specs.declared.fault.ImproveFault.{ImproveFault}
 use Rattle.mm_improve.proofs.FoundKids.{count-all, count-fails, count-more, count-over}
-use Rattle.mm_improve.proofs.FoundLays.{counts-none, counts-same}
+use Rattle.mm_improve.proofs.FoundLays.{counts-err, counts-none, counts-same}
 use Rattle.mm_improve.proofs.FoundProofs.{by_use, found_at_zero, found_by, found_chosen, not_there, premise_essential, premise_floated, premise_long, string_short, used_serves}
 use Rattle.mm_improve.proofs.finding.+size.Goals as goal
 
@@ -36,7 +37,7 @@ found_size-use_size-requires t c =
     let g : List WSym = c.args.goal.now in
     let some : c.args.depth ≡ 0 → ⊥ = c.if-depth-eq0.false in
     let own = subst (λ (o : Option Use). IfSome o (IsOwnUse k)) c.in-Some.is c.in_ok-used.ensures.own in
-    (omega (arith, c.decreases), (c.requires.ready, own, used_serves k (c.args.depth - 1) g c.in_ok-used.field-0 c.in-Some.used c.in_ok-used.ensures.first c.in-Some.is))
+    (omega (arith, c.decreases), (c.requires.ready, (own, used_serves k (c.args.depth - 1) g c.in_ok-used.field-0 c.in-Some.used c.in_ok-used.ensures.first c.in-Some.is)))
 
 pub found_size-returns-in-Some : goal.found_size-returns-in-Some
 found_size-returns-in-Some t c =
@@ -103,9 +104,10 @@ use_size-returns-in_err-steps t c =
     let same =
     ap (λ (u : Use). premise_proof k (proof_of k d) u.sigma (get_or items i 0)) c.used.view_is ∙ ap (λ (xs : List ℕ). premise_proof k (proof_of k d) u.sigma (get_or xs i 0)) ids in
     let test = c.loop-premise-test.true in
-    let was = c.from_residual.ensures in
-    let e = c.in_err-steps in
-    ?
+    let f : ImproveFault = c.in_err-steps.field-0.0 in
+    let failed : Option Plain → Type 0 = λ o. IsCounted o (Err f) in
+    λ g. counts-err (proof_by k (proof_of k d) g u) c.from_residual.result f (same_error c.from_residual.result f c.from_residual.ensures.1 c.from_residual.ensures.0)
+        (count-fails k d u c.requires.serves i f (omega arith) (subst failed same c.in_err-steps.ensures) g)
 
 pub use_size-overflow_add-steps : goal.use_size-overflow_add-steps
 use_size-overflow_add-steps t c =
