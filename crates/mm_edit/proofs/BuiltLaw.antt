@@ -96,7 +96,7 @@ not_empty : (bytes : List ℕ) (set : Settings) (ps : Pairs) → ByRecursion (λ
 not_empty bytes set [] a = tt
 not_empty bytes set (p ∷ ps) a = (a.0.some, not_empty bytes set ps a.1)
 
-none_works : (s : List WSym) → ByRecursion (λ x. is_work x ≡ false) s → has_work s ≡ false
+pub none_works : (s : List WSym) → ByRecursion (λ x. is_work x ≡ false) s → has_work s ≡ false
 none_works [] h = refl
 none_works (x ∷ xs) h = ap (λ b. b || has_work xs) h.0 ∙ none_works xs h.1
 

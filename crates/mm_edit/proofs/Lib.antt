@@ -31,3 +31,7 @@ pub mod BuiltFold
 pub mod BuiltFinds
 pub mod BuiltReady
 pub mod BuiltLaw
+pub mod LaidLemmas
+pub mod LaidValid
+pub mod LayingLemmas
+pub mod LaidPlans

@@ -1,6 +1,6 @@
 -- A proof that is loaded is valid.
 use Rattle.std.proofs.Common.{◌≡◌, ◌≢◌, ◌≤◌, ◌<◌, ◌+◌, ℕ, Bool, true, false, not, ◌||◌, nat_lt, List, [], ◌∷◌, map, length, cond, Option, None, Some, refl, sym, ◌∙◌, ap, subst, arith}
-use Rattle.std.specs.Prelude.{Result, Ok, Err}
+use Rattle.std.specs.Prelude.{Result, Ok, Err, IfOk, IfSome, All}
 use Rattle.std.specs.List.{list_all}
 use Rattle.std.specs.Option.{option_map}
 use Rattle.std.proofs.lemmas.Bool.Decides.{nat_tests}
@@ -12,24 +12,26 @@ use Rattle.mm_subst.specs.Symbols.{has_work, is_work}
 use Rattle.mm_subst.specs.declared.symbol.WSym.{WSym}
 use Rattle.mm_subst.specs.declared.symbol.WSym.TheVariants.{Const, Var}
 use Rattle.mm_unify.specs.declared.listing.Settings.{Settings}
-use Rattle.mm_plain.specs.LabelTrees.{fresh_proof, fresh_proof_of}
+use Rattle.mm_plain.specs.LabelTrees.{MayStand, fresh_proof, fresh_proof_of}
 use Rattle.mm_plain.specs.Shape.{Proof, target_of}
-use Rattle.mm_plain.specs.Valid.{IsValid, first_setting, most_works}
+use Rattle.mm_plain.specs.Valid.{IsValid, first_setting, most_steps, most_works}
 use Rattle.mm_plain.proofs.Forms.{string_of_statement}
 use Rattle.mm_plain.proofs.LabelTrees.{height-begun, next-begun, valid-begun}
-use Rattle.mm_tree.specs.Labelled.{IsBegun, draws_all}
+use Rattle.mm_tree.specs.Labelled.{FoldLow, IsBegun, draws_all}
 use Rattle.mm_tree.specs.Trees.{State}
 use Rattle.mm_tree.specs.declared.labelled.OfLabelsFault.{OfLabelsFault}
 use Rattle.mm_tree.specs.declared.labelled.OfLabelsFault.TheVariants as begin
+use Rattle.mm_edit.specs.Built.{IsBuiltProof}
 use Rattle.mm_edit.specs.Keeping.{IsProofOf}
 use Rattle.mm_edit.specs.Labelling.{label_tree_at, labels_for}
-use Rattle.mm_edit.specs.Loading.{IsCost, all_visited, fault_of_labels, fault_of_visit, has_many_works, loading, may_label, measured, or_too_long, stands_at}
+use Rattle.mm_edit.specs.Loading.{AreLabelsOf, IsCost, IsLoaded, IsRead, all_visited, fault_of_labels, fault_of_visit, has_many_works, loading, may_label, measured, or_too_long, stands_at}
 use Rattle.mm_edit.specs.declared.edit_fault.EditFault.{EditFault}
 use Rattle.mm_edit.specs.declared.edit_fault.EditFault.TheVariants as edit
 use Rattle.mm_edit.specs.declared.loading.LoadFault.{LoadFault}
 use Rattle.mm_edit.specs.declared.loading.LoadFault.TheVariants.{NoTree, WorkSpent, Memory}
+use Rattle.mm_edit.proofs.BuiltLaw.{HaveDistinct, loading_built}
 use Rattle.mm_edit.proofs.LoadLemmas.{all_visits_stay}
-use Rattle.mm_edit.proofs.LoadedLemmas.{all-stand, count-labels, few-labels, folds-low, loading-so, loading-spent}
+use Rattle.mm_edit.proofs.LoadedLemmas.{all-stand, count-labels, few-labels, folds-low, loading-so, loading-spent, loading-stray}
 
 is_fixed : (bytes : List ℕ) (n : ℕ) → is_work (symbol_of bytes n) ≡ false
 is_fixed bytes n = by (is_variable_of bytes n) where
@@ -92,13 +94,6 @@ loading_valid bytes at set q e = by (measured (label_tree_at bytes at)) refl e w
 pub begun_proof : (bytes : List ℕ) (at : ℕ) (p : Proof) → IsValid bytes at (statement_of bytes at) p → IsProofOf bytes at (target_of p.plain) p
 begun_proof bytes at p valid = subst (λ (goal : List WSym). IsProofOf bytes at goal p) (sym valid.goal_is) (record { valid = valid; fixed = statement_fixed bytes at })
 
--- what is known of a theorem whose label tree is measured
-pub record IsRead (bytes : List ℕ) (at : ℕ) (labels : List (Option ℕ)) : Type 0 where
-  pub tree : Tree
-  pub measures : measured (label_tree_at bytes at) ≡ Ok tree
-  pub labels_are : labels ≡ labels_for tree
-  pub stand : list_all (stands_at bytes at) labels ≡ true
-
 -- the proof with which its tree begins
 abbrev first_proof : (bytes : List ℕ) (at : ℕ) (labels : List (Option ℕ)) → IsRead bytes at labels → Proof
 first_proof bytes at labels r = fresh_proof bytes (statement_of bytes at) (folds-low bytes at r.tree labels r.measures r.labels_are).0
@@ -147,3 +142,31 @@ refused_so bytes at set labels t f r begins visited other = visits_so bytes at s
 
 pub cost_so : (bytes : List ℕ) (at : ℕ) (labels : List (Option ℕ)) (old now : ℕ) → IsRead bytes at labels → now ≤ old + length labels → IsCost (measured (label_tree_at bytes at)) old now
 cost_so bytes at labels old now r h = subst (λ (m : Result Tree LoadFault). IsCost m old now) (sym r.measures) (omega (arith, h, count-labels r.tree labels r.labels_are))
+
+pub read_so : (bytes : List ℕ) (at : ℕ) (labels xs ys : List (Option ℕ)) → AreLabelsOf (label_tree_at bytes at) labels → xs ≡ labels → ys ≡ labels → list_all (stands_at bytes at) xs ≡ true → IsRead bytes at ys
+read_so bytes at labels xs ys l e f h =
+    record { tree = l.0; measures = l.1; labels_are = f ∙ l.2; stand = subst (λ (os : List (Option ℕ)). list_all (stands_at bytes at) os ≡ true) (e ∙ sym f) h }
+
+pub loaded_valid : (bytes : List ℕ) (at : ℕ) (set : Settings) (r : Result State LoadFault) → IsLoaded (loading bytes at set) r → IfOk r (λ t. IsValid bytes at (statement_of bytes at) t.proof)
+loaded_valid bytes at set (Ok t) h = loading_valid bytes at set t.proof h
+loaded_valid bytes at set (Err f) h = tt
+
+-- a built proof of these labels is what loading gives
+pub built_so : (bytes : List ℕ) (at : ℕ) (set : Settings) (labels : List (Option ℕ)) (o : Option State) (t : State) → HaveDistinct bytes → IsRead bytes at labels → IfSome o (λ u. IsBuiltProof bytes at set labels u.proof)
+    → o ≡ Some t → loading bytes at set ≡ Ok t.proof
+built_so bytes at set labels o t differ r b e =
+    let built : IsBuiltProof bytes at set labels t.proof = subst (λ (x : Option State). IfSome x (λ u. IsBuiltProof bytes at set labels u.proof)) e b in
+    loading_built bytes at set r.tree t.proof differ r.measures (subst (λ (os : List (Option ℕ)). list_all (stands_at bytes at) os ≡ true) r.labels_are r.stand)
+    (subst (λ (os : List (Option ℕ)). IsBuiltProof bytes at set os t.proof) r.labels_are built)
+
+pub read_few : (bytes : List ℕ) (at : ℕ) (labels : List (Option ℕ)) → IsRead bytes at labels → length labels ≤ most_steps
+read_few bytes at labels r = few-labels bytes at r.tree labels r.measures r.labels_are
+
+pub read_low : (bytes : List ℕ) (at : ℕ) (labels : List (Option ℕ)) → IsRead bytes at labels → FoldLow bytes labels
+read_low bytes at labels r = folds-low bytes at r.tree labels r.measures r.labels_are
+
+pub read_stand : (bytes : List ℕ) (at : ℕ) (labels : List (Option ℕ)) → IsRead bytes at labels → All (MayStand bytes at) labels
+read_stand bytes at labels r = all-stand bytes at labels r.stand
+
+pub stray_so : (bytes : List ℕ) (at : ℕ) (set : Settings) (labels xs : List (Option ℕ)) → AreLabelsOf (label_tree_at bytes at) labels → xs ≡ labels → list_all (stands_at bytes at) xs ≡ false → loading bytes at set ≡ Err NoTree
+stray_so bytes at set labels xs l e h = loading-stray bytes at set l.0 l.1 (subst (λ (os : List (Option ℕ)). list_all (stands_at bytes at) os ≡ false) (e ∙ l.2) h)

@@ -15,3 +15,5 @@ pub mod Trying
 pub mod Labelling
 pub mod Loading
 pub mod Built
+pub mod LaidOut
+pub mod Laying

@@ -115,3 +115,10 @@ fault_of_labels begin.Memory = Memory
 abbrev pub fault_of_visit : EditFault → LoadFault
 fault_of_visit edit.Memory = Memory
 fault_of_visit f = TooLong
+
+-- these are the labels of the label tree, which is not too large, and each may stand in the proof
+pub record IsRead (bytes : List ℕ) (at : ℕ) (labels : List (Option ℕ)) : Type 0 where
+  pub tree : Tree
+  pub measures : measured (label_tree_at bytes at) ≡ Ok tree
+  pub labels_are : labels ≡ labels_for tree
+  pub stand : list_all (stands_at bytes at) labels ≡ true

@@ -2,6 +2,7 @@
 #![tactic(auto)]
 
 mod assign_step;
+mod building;
 mod checks;
 mod deletion;
 mod edit_fault;
@@ -10,6 +11,7 @@ mod going_back;
 mod initialization;
 mod label_list;
 mod laws;
+mod laying;
 mod let_value;
 mod listing;
 mod loading;

@@ -1,6 +1,6 @@
 //! A theorem's proof, loaded from its text.
 
-ghost use Rattle.std.specs.Prelude.{◌≡◌, ◌<◌, ◌≤◌, All, IfOk, MatchResult, length};
+ghost use Rattle.std.specs.Prelude.{◌≡◌, ◌+◌, ◌<◌, ◌≤◌, All, IfOk, MatchResult, length};
 ghost use Rattle.std.specs.List.{list_all, AllByRecursion};
 ghost use Rattle.mm_proof.specs.Compacting.{alone};
 ghost use Rattle.mm_proof.specs.Decoding.{decoded};
@@ -17,16 +17,17 @@ ghost use Rattle.mm_plain.specs.Valid.{IsValid};
 ghost use Rattle.mm_tree.specs.Versions.{HasNoDrafts};
 ghost use Rattle.mm_edit.specs.Edited.{IsTried};
 ghost use Rattle.mm_edit.specs.Keeping.{IsProofOf};
-ghost use Rattle.mm_edit.specs.Loading.{AreLabelsOf, HasNone, HasSteps, IsCost, IsLoaded, IsMeasured, all_visited, fault_of_labels, fault_of_text, fault_of_visit, loading, measured, stands_at, visited_at};
+ghost use Rattle.mm_edit.specs.Loading.{AreLabelsOf, HasNone, HasSteps, IsCost, IsLoaded, IsMeasured, IsRead, all_visited, fault_of_labels, fault_of_text, fault_of_visit, loading, measured, stands_at, visited_at};
 ghost use Rattle.mm_edit.specs.declared.loading.LoadFault.TheVariants.{Memory};
 
+use crate::building::built;
 use crate::edit_fault::EditFault;
 use crate::label_list::label_list;
 use crate::listing::{apply_to_tree, only};
 use crate::unification::list_at;
 use mm_base::Steps;
-use mm_proof::{ProofFault, ProofSteps, decode, shape};
-use mm_scope::{Database, Kind, StmtId};
+use mm_proof::{ProofFault, ProofStep, ProofSteps, decode, shape};
+use mm_scope::{Database, Kind, StmtId, mandatory_variables_differ};
 use mm_tree::{MOST_LEVELS, MOST_STEPS, OfLabelsFault, Tree};
 use mm_unify::Settings;
 use std::alloc::{AllocError, Global};
@@ -125,17 +126,22 @@ fn measure(alloc: Global, db: &Database, at: StmtId, steps: &ProofSteps) -> Resu
     Ok(())
 }
 
-/// The labels of the tree of a theorem's proof, unless there is none, or it is too large.
-fn labels_at(alloc: Global, db: &Database, at: StmtId) -> Result<Vec<Option<u32>>, LoadFault>
+/// The steps of a theorem's proof, and the labels of its tree, unless there is none, or it is too large.
+fn labels_at(
+    alloc: Global,
+    db: &Database,
+    at: StmtId,
+) -> Result<(ProofSteps, Vec<Option<u32>>), LoadFault>
     requires own { at.0 < length (labels_of db.now) }
     requires theorem { (stated_at db.now at.0).kind ≡ Theorem }
-    ensures labels { MatchResult result (λ v. AreLabelsOf (label_tree_at db.now at.0) v.items) (λ f. HasNone (label_tree_at db.now at.0) f) }
-    ensures own { IfOk result (λ v. All (IsOwnLabel db.now) v.items) }
+    ensures labels { MatchResult result (λ v. AreLabelsOf (label_tree_at db.now at.0) v.1.items) (λ f. HasNone (label_tree_at db.now at.0) f) }
+    ensures own { IfOk result (λ v. All (IsOwnLabel db.now) v.1.items) }
+    ensures steps { IfOk result (λ v. AllByRecursion (λ x. IsOwn db.now x.kind) v.0) }
 {
     let spelled = spelled_steps(alloc, db, at)?;
     measure(alloc, db, at, &spelled)?;
     let labels = label_list(alloc, db, spelled.steps())?;
-    Ok(labels)
+    Ok((spelled, labels))
 }
 
 /// Whether each label may stand in the proof of a theorem.
@@ -214,6 +220,56 @@ fn visit_all(
     Ok(())
 }
 
+/// The tree that the labels of a theorem's proof begin, after each step of it is visited.
+fn load_by_visits<L: Ledger>(
+    alloc: Global,
+    db: &Database,
+    at: StmtId,
+    set: &Settings,
+    labels: &[Option<u32>],
+    steps: &mut Steps<L>,
+) -> Result<Tree, LoadFault>
+    requires own { at.0 < length (labels_of db.now) }
+    requires read { IsRead db.now at.0 labels.now }
+    ensures loaded { IsLoaded (loading db.now at.0 set.now) result }
+    ensures settled { IfOk result (λ t. HasNoDrafts t.versions) }
+    ensures cost { steps.new ≤ steps.old + length labels.now }
+{
+    let mut tree = Tree::of_labels(alloc, db, at, labels, steps)?;
+    match visit_all(alloc, &mut tree, db, at, set) {
+        Ok(()) => {
+            tree.settle();
+            Ok(tree)
+        }
+        Err(fault) => Err(fault_of_visit(fault)),
+    }
+}
+
+/// The same by the steps of the proof: where these have their own strings, no step is visited.
+fn load_by_steps<L: Ledger>(
+    alloc: Global,
+    db: &Database,
+    at: StmtId,
+    set: &Settings,
+    spelled: &[ProofStep],
+    labels: &[Option<u32>],
+    steps: &mut Steps<L>,
+) -> Result<Tree, LoadFault>
+    requires own { at.0 < length (labels_of db.now) }
+    requires spelled { AllByRecursion (λ x. IsOwn db.now x.kind) spelled.now }
+    requires labels { All (IsOwnLabel db.now) labels.now }
+    requires read { IsRead db.now at.0 labels.now }
+    ensures loaded { IsLoaded (loading db.now at.0 set.now) result }
+    ensures settled { IfOk result (λ t. HasNoDrafts t.versions) }
+    ensures cost { steps.new ≤ steps.old + length labels.now }
+{
+    mandatory_variables_differ(db.bytes());
+    if let Some(tree) = built(alloc, db, at, set, spelled, labels, steps)? {
+        return Ok(tree);
+    }
+    load_by_visits(alloc, db, at, set, labels, steps)
+}
+
 /// A theorem's proof as a tree, from its text in either form: the tree that its labels fold to, with fresh work variables for
 /// the variables of what its steps name, in which each step is visited once, in postorder. A pending step with an only unifier
 /// then has it applied.
@@ -235,16 +291,17 @@ pub fn load<L: Ledger>(
     ensures valid { IfOk result (λ t. IsValid db.now at.0 (statement_of db.now at.0) t.proof) }
     ensures cost { IsCost (measured (label_tree_at db.now at.0)) steps.old steps.new }
 {
-    let labels = labels_at(alloc, db, at)?;
+    let (spelled, labels) = labels_at(alloc, db, at)?;
     if !may_stand_all(db, at, labels.as_slice()) {
         return Err(LoadFault::NoTree);
     }
-    let mut tree = Tree::of_labels(alloc, db, at, labels.as_slice(), steps)?;
-    match visit_all(alloc, &mut tree, db, at, set) {
-        Ok(()) => {
-            tree.settle();
-            Ok(tree)
-        }
-        Err(fault) => Err(fault_of_visit(fault)),
-    }
+    load_by_steps(
+        alloc,
+        db,
+        at,
+        set,
+        spelled.steps(),
+        labels.as_slice(),
+        steps,
+    )
 }

@@ -31,10 +31,11 @@ use Rattle.mm_sound.specs.Complete.{IsDone, labels_in}
 use Rattle.mm_sound.specs.LabelTrees.{label_tree}
 use Rattle.mm_sound.specs.Proves.{Proves}
 use Rattle.mm_sound.specs.Pushed.{IsSmall, Spells, pushed_proof, pushed_tree}
+use Rattle.mm_sound.specs.Substituted.{HasValues}
 use Rattle.mm_sound.proofs.Labelled.{number_for, is_postorder}
 use Rattle.mm_sound.proofs.Runs.{never_unknown, settled}
 use Rattle.mm_sound.proofs.Spelled.{MayStand, labels_stand}
-use Rattle.mm_loaded.specs.Loads.{HasSureValues, IsLight, Loads, proof_for}
+use Rattle.mm_loaded.specs.Loads.{IsLight, Loads, proof_for}
 
 -- ## The label tree of a text
 
@@ -111,12 +112,12 @@ BuiltLoads bytes = (at : ℕ) (set : Settings) (t : Tree) (p : Proof) → measur
 
 module _ (bytes : List ℕ) (built : BuiltLoads bytes) (at : ℕ) (set : Settings) (t : Tree) where
   -- what is accepted with this label tree is loaded
-  pub tree_loads : ((next : ℕ) → IsSmall t next → Proves bytes at (pushed_proof bytes t next)) → trees_of (label_tree (pushed_tree bytes t) ∷ []) ≡ trees_of (t ∷ []) → has_works (pushed_tree bytes t) ≡ false
-      → label_tree_at bytes at ≡ Some t → IsLight bytes t → HasSureValues bytes set t → Loads bytes at set t
+  pub tree_loads : ((next : ℕ) → IsSmall t next → Proves bytes at (pushed_proof bytes t next)) → label_tree (pushed_tree bytes t) ≡ t → has_works (pushed_tree bytes t) ≡ false
+      → label_tree_at bytes at ≡ Some t → IsLight bytes t → HasValues (is_surely_found bytes set) (pushed_tree bytes t) → Loads bytes at set t
   tree_loads proves labels plain found light sure =
       let p : Proof = proof_for bytes t in
       let w = proves (1 + draws_all bytes (labels_for t)) (record { few = light.few; low = light.low; counter = (omega arith, omega (arith, light.drawn)) }) in
-      let same : labels_in p.plain ≡ labels_for t = labels_are p.plain t labels in
+      let same : labels_in p.plain ≡ labels_for t = labels_are p.plain t (ap (λ u. trees_of (u ∷ [])) labels) in
       let may : may_label bytes at t ≡ true =
       ap (list_all (stands_at bytes at)) (sym same) ∙ all_stand bytes at (labels_in p.plain) (labels_stand (setting_of bytes at p) p.plain w.valid.steps) in
       record {

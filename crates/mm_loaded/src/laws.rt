@@ -12,12 +12,12 @@ use mm_edit::built_proofs_are_loaded;
 use mm_sound::accepted_proofs_are_trees;
 
 /// Loading gives a proof of each accepted theorem (Metamath book, section 4.1.4). The text of an accepted proof, in either
-/// form, has a label tree. Where this is not too large, and each value that is substituted is surely found by a search under
-/// the settings, loading gives the proof whose strings are those that the machine pushes: valid and complete, with its pairs of
+/// form, has a label tree. Where this is not too large, and each value that the machine substitutes is surely found by a
+/// search under the settings, loading gives the proof whose strings are those that the machine pushes: valid and complete, with its pairs of
 /// variables kept, and with that label tree.
 pub fn accepted_proofs_are_loaded(bytes: &[u8])
     ensures tree { (at : ℕ) → verdict_of bytes.now at ≡ Accepted → (t : Tree) × (label_tree_at bytes.now at ≡ Some t) }
-    ensures loads { (at : ℕ) (set : Settings) (t : Tree) → verdict_of bytes.now at ≡ Accepted → label_tree_at bytes.now at ≡ Some t → IsLight bytes.now t → HasSureValues bytes.now set t → Loads bytes.now at set t }
+    ensures loads { (at : ℕ) (set : Settings) (t : Tree) → verdict_of bytes.now at ≡ Accepted → label_tree_at bytes.now at ≡ Some t → IsLight bytes.now t → HasSureValues bytes.now at set → Loads bytes.now at set t }
 {
     accepted_proofs_are_trees(bytes);
     built_proofs_are_loaded(bytes);

@@ -24,7 +24,7 @@ use Rattle.mm_plain.proofs.Kept.{known-good, unknown-good}
 use Rattle.mm_plain.proofs.Moved.{sound-raised}
 use Rattle.mm_plain.proofs.Read.{sigma_of-known, sigma_of-unknown}
 use Rattle.mm_proof.specs.Decoding.{decoded, proof_of}
-use Rattle.mm_proof.specs.Trees.{Tree, trees_of}
+use Rattle.mm_proof.specs.Trees.{Tree, tree, trees_of}
 use Rattle.mm_proof.specs.declared.fault.ProofFault.{ProofFault}
 use Rattle.mm_proof.specs.declared.step.ProofStep.{ProofStep}
 use Rattle.mm_proof.specs.declared.step.StepKind.{StepKind}
@@ -135,6 +135,12 @@ tree_plain bytes at x h = steps_plain bytes at (steps_of x) h
 
 -- ## The tree of an accepted proof
 
+same_one : (t u : Tree) → trees_of (t ∷ []) ≡ trees_of (u ∷ []) → t ≡ u
+same_one t u h =
+    let label : t.label ≡ u.label = cc in
+    let children : t.children ≡ u.children = cc in
+    ap (λ l. tree l t.children) label ∙ ap (tree u.label) children
+
 module _ (bytes : List ℕ) (differ : (id : ℕ) → AllDiffer (variables_of (statements_of bytes) (stated_at bytes id).mandatory)) (at : ℕ) where
   abbrev builds : (List WSym → Bool) → List ProofStep → Type 0
   builds test steps = Built (first_setting bytes at) (distinct_at bytes at) test steps (stated_at bytes at).symbols
@@ -207,8 +213,8 @@ module _ (bytes : List ℕ) (differ : (id : ℕ) → AllDiffer (variables_of (st
         apart = w.apart;
       }
 
-  pub tree_labelled : (t : Tree) → verdict_of bytes at ≡ Accepted → Spells bytes at t → trees_of (label_tree (pushed_tree bytes t) ∷ []) ≡ trees_of (t ∷ [])
-  tree_labelled t v s = labelled bytes t (tree_stands t v s).complete
+  pub tree_labelled : (t : Tree) → verdict_of bytes at ≡ Accepted → Spells bytes at t → label_tree (pushed_tree bytes t) ≡ t
+  tree_labelled t v s = same_one (label_tree (pushed_tree bytes t)) t (labelled bytes t (tree_stands t v s).complete)
 
   pub tree_without_works : (t : Tree) → verdict_of bytes at ≡ Accepted → Spells bytes at t → has_works (pushed_tree bytes t) ≡ false
   tree_without_works t v s = tree_plain bytes at (pushed_tree bytes t) (tree_stands t v s).sound

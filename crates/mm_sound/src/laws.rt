@@ -15,7 +15,7 @@ ghost use Rattle.mm_proof.specs.Encoding.{kind_of, compressed_proof};
 ghost use Rattle.mm_proof.specs.Forests.{trees_in};
 ghost use Rattle.mm_proof.specs.Spelling.{steps_read};
 ghost use Rattle.mm_proof.specs.Standing.{MayProve};
-ghost use Rattle.mm_proof.specs.Trees.{Tree, trees_of};
+ghost use Rattle.mm_proof.specs.Trees.{Tree};
 ghost use Rattle.mm_stack.specs.Accepting.{Accepts, verdict_by, verdict_of};
 ghost use Rattle.mm_proof.specs.declared.fault.ProofFault.{ProofFault};
 ghost use Rattle.mm_stack.specs.declared.outcome.Verdict.TheVariants.{Accepted, Incomplete};
@@ -104,7 +104,7 @@ pub fn compressed_proofs_are_accepted(bytes: &[u8])
 pub fn accepted_proofs_are_trees(bytes: &[u8])
     ensures tree { (at : ℕ) → verdict_of bytes.now at ≡ Accepted → (t : Tree) × Spells bytes.now at t }
     ensures proves { (at next : ℕ) (t : Tree) → verdict_of bytes.now at ≡ Accepted → Spells bytes.now at t → IsSmall t next → Proves bytes.now at (pushed_proof bytes.now t next) }
-    ensures labels { (at : ℕ) (t : Tree) → verdict_of bytes.now at ≡ Accepted → Spells bytes.now at t → trees_of (label_tree (pushed_tree bytes.now t) ∷ []) ≡ trees_of (t ∷ []) }
+    ensures labels { (at : ℕ) (t : Tree) → verdict_of bytes.now at ≡ Accepted → Spells bytes.now at t → label_tree (pushed_tree bytes.now t) ≡ t }
     ensures plain { (at : ℕ) (t : Tree) → verdict_of bytes.now at ≡ Accepted → Spells bytes.now at t → has_works (pushed_tree bytes.now t) ≡ false }
     ensures values { (at : ℕ) (test : List WSym → Bool) (t : Tree) → verdict_of bytes.now at ≡ Accepted → Spells bytes.now at t → All (λ v. test v ≡ true) (substituted_in bytes.now at) → HasValues test (pushed_tree bytes.now t) }
 {

@@ -25,3 +25,4 @@ pub mod FreshVariables
 pub mod Renewed
 pub mod ReplacingLemmas
 pub mod Refilled
+pub mod PlanLemmas

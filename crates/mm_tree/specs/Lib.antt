@@ -13,3 +13,4 @@ pub mod Written
 pub mod Floats
 pub mod Labelled
 pub mod Replacing
+pub mod Plans

@@ -14,7 +14,7 @@ use mm_subst::{Subst, WStr, WSym};
 use std::alloc::{AllocError, Global};
 
 /// The variable of a `$f`; `None` of another statement.
-fn variable_of(db: &Database, id: StmtId) -> Option<u32>
+pub fn variable_of(db: &Database, id: StmtId) -> Option<u32>
     requires { id.0 < length (labels_of db.now) }
     ensures { result ≡ variable_of (stated_at db.now id.0) }
 {
