@@ -123,9 +123,9 @@ module _ (c : Terms) (differ : VariablesDiffer c.bytes) (low : c.at < length (la
   tree_from x e s p =
       ap (on (λ _. ranks.tree c limit (code ∷ []))) e
       ∙ ap (λ (y : Plain). Some y) (
-          unfolds c limit (code ∷ []) x e
-          ∙ ap (λ (gs : List (List WSym)). known (code ∷ []) x.use_.id x.use_.sigma (map (ranks.tree c limit) gs)) p
-          ∙ ap (λ (v : Pairs). known (code ∷ []) x.use_.id v []) s)
+      unfolds c limit (code ∷ []) x e
+      ∙ ap (λ (gs : List (List WSym)). known (code ∷ []) x.use_.id x.use_.sigma (map (ranks.tree c limit) gs)) p
+      ∙ ap (λ (v : Pairs). known (code ∷ []) x.use_.id v []) s)
 
   -- an assertion whose conclusion is a typecode alone has no variable, and so no hypothesis
   no_text : (keys : List ℕ) (codes s : List WSym) → has_no_items (items_of keys codes [] s) ≡ true → s ≡ []
@@ -153,8 +153,7 @@ module _ (c : Terms) (differ : VariablesDiffer c.bytes) (low : c.at < length (la
       sym (ap (λ (s : List WSym). has_no_items (items_of (variables_for c.bytes id) (codes_for c.bytes id) [] (split s).1)) p.statement) ∙ sym (ap (λ (y : Assertion). has_no_items y.items) i.2) ∙ items_none in
       let none : variables_for c.bytes id ≡ [] = no_keys c.bytes id p (no_text (variables_for c.bytes id) (codes_for c.bytes id) p.text stated) (variables_for c.bytes id) refl in
       let same : a.id ≡ id = ap (λ (y : Assertion). y.id) i.2 in
-      let empty : (v : Pairs) → parts c.bytes id v ≡ [] = λ v. ap (map (applied v)) (p.hypotheses ∙ ap (typed (codes_for c.bytes id)) none ∙ untyped (codes_for c.bytes id)) in
-      (
+      let empty : (v : Pairs) → parts c.bytes id v ≡ [] = λ v. ap (map (applied v)) (p.hypotheses ∙ ap (typed (codes_for c.bytes id)) none ∙ untyped (codes_for c.bytes id)) in (
         ap (λ (n : ℕ). sigma_of c.bytes n []) same ∙ ap (map (λ n. (Var n, value [] (place_or_none (place (order_for c.bytes id) n))))) none,
         ap (λ (n : ℕ). parts c.bytes n (sigma_of c.bytes n [])) same ∙ empty (sigma_of c.bytes id []),
       )
@@ -182,4 +181,4 @@ module _ (c : Terms) (differ : VariablesDiffer c.bytes) (low : c.at < length (la
           tree_from x now w.0 w.1
       by None None e f =
           ap (on (λ _. ranks.tree c limit (code ∷ []))) (
-              chosen_is ∙ ap (λ (o : Option Hypothesis). on (chosen_by c.bytes) (or_else (on by_hypothesis o) (on (by_use 1) (on bare_use first_bare)))) e ∙ ap (λ (s : Option Assertion). on (chosen_by c.bytes) (on (by_use 1) (on bare_use s))) f)
+          chosen_is ∙ ap (λ (o : Option Hypothesis). on (chosen_by c.bytes) (or_else (on by_hypothesis o) (on (by_use 1) (on bare_use first_bare)))) e ∙ ap (λ (s : Option Assertion). on (chosen_by c.bytes) (on (by_use 1) (on bare_use s))) f)

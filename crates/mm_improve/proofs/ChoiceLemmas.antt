@@ -156,28 +156,7 @@ module _ (c : Terms) (differ : VariablesDiffer c.bytes) (low : c.at < length (la
   pub bare_none : None ≡ bare_id (grammar_of c) code → chosen_tree c (code ∷ t) ≡ None
   bare_none e = subst (λ (u : List WSym). chosen_tree c (code ∷ u) ≡ None) (sym empty) (told None e)
 
--- ## What is found, by what is known
-
-pub nothing_laid : (old new : Plan) (found : Option Plain) (left : ℕ) → found ≡ None → new ≡ old → LaysFound old found left (Ok false) new
-nothing_laid old new found left e s = subst (λ (o : Option Plain). LaysFound old o left (Ok false) new) (sym e) (refl, s)
-
-pub all_laid : (old new : Plan) (found : Option Plain) (x : Plain) (left : ℕ) → found ≡ Some x → IsLaid old x left new → LaysFound old found left (Ok true) new
-all_laid old new found x left e h = subst (λ (o : Option Plain). LaysFound old o left (Ok true) new) (sym e) (refl, h)
-
-pub fault_laid : (A : Type 0) (old new : Plan) (found : Option Plain) (x : Plain) (left : ℕ) (f : ImproveFault) → found ≡ Some x → LaysTree {A = A} old x left (Err f) new → LaysFound old found left (Err f) new
-fault_laid A old new found x left f e h = subst (λ (o : Option Plain). LaysFound old o left (Err f) new) (sym e) (moved f h)
-  where
-    moved : (f : ImproveFault) → LaysTree {A = A} old x left (Err f) new → LaysTree {A = Bool} old x left (Err f) new
-    moved TooManySteps h = h
-    moved TooDeep h = h
-    moved Memory h = h
-
-pub memory_laid : (old new : Plan) (found : Option Plain) (left : ℕ) → LaysFound old found left (Err Memory) new
-memory_laid old new None left = tt
-memory_laid old new (Some x) left = tt
-
-pub none_counted : (found : Option Plain) → found ≡ None → IsCounted found (Ok 0)
-none_counted found e x h = absurd (let z : None ≡ Some x = sym e ∙ h in cc)
+-- ## The size, by what is known
 
 pub one_counted : (found : Option Plain) (t : List WSym) (id : ℕ) → found ≡ Some (known t id [] []) → IsCounted found (Ok 1)
 one_counted found t id e x h =
@@ -189,6 +168,3 @@ all_counted c r t p found parts e s few x h =
     let same : tree_at c r t p ≡ x = let z : Some (tree_at c r t p) ≡ Some x = sym e ∙ h in cc in
     let size : size_of (tree_at c r t p) ≡ length parts = sym (length-steps_of (tree_at c r t p)) ∙ sym (ap length s) ∙ length-reverse (map (tree_at c r t) parts) ∙ length-map parts (tree_at c r t) in
     (sym (ap size_of same) ∙ size, few)
-
-pub too_many_counted : (found : Option Plain) (y : Plain) → found ≡ Some y → most_steps < size_of y → IsCounted found (Err TooManySteps)
-too_many_counted found y e l x h = subst (λ (z : Plain). most_steps < size_of z) (let z : Some y ≡ Some x = sym e ∙ h in let q : y ≡ x = cc in q) l

@@ -18,7 +18,7 @@ use Rattle.mm_tree.proofs.FreshVariables.{variables-differ}
 use Rattle.mm_improve.specs.declared.table.Part.{Part}
 use Rattle.mm_improve.specs.Assertions.{Terms}
 use Rattle.mm_improve.specs.Items.{Goal, value}
-use Rattle.mm_improve.specs.Charts.{Noted, Rows, meaning, entry_at, goals_of, AreAnswersFor, ArePlaced, AreWithin}
+use Rattle.mm_improve.specs.Charts.{Noted, Rows, meaning, entry_at, goals_of, AreAnswersFor, ArePlaced}
 use Rattle.mm_improve.specs.Grammars.{place, place_or_none, order_for, grammar_of, sigma_of, chosen_by}
 use Rattle.mm_improve.specs.Steps.{IsStep, values_by}
 use Rattle.mm_improve.specs.Traces.{string_of, tree_at, IsRanked, keys_of, kids_of, no_part}
@@ -129,6 +129,3 @@ pub ranked-at : (c : Terms) (r : ℕ) (goal : WSym) (t : List WSym) (ps : List P
 ranked-at c r goal t [] k d h l = absurd (omega arith)
 ranked-at c r goal t (p ∷ ps) zero d h l = h.0
 ranked-at c r goal t (p ∷ ps) (suc k) d h l = ranked-at c r goal t ps k d h.1 (omega arith)
-
-pub are-within : (c : Terms) (r : ℕ) (goal : WSym) (t : List WSym) (ps : List Part) → AllByRecursion (IsRanked c r goal t) ps → AreWithin t ps
-are-within c r goal t ps h = record { each = λ k l d. let q = ranked-at c r goal t ps k d h l in (q.ordered, q.within) }

@@ -71,12 +71,7 @@ fn step_of(
 }
 
 /// The substitution that puts the string of a part for each variable.
-fn values_by(
-    alloc: Global,
-    text: &[WSym],
-    keys: &[u32],
-    kids: &[Part],
-) -> Result<Subst, Memory>
+fn values_by(alloc: Global, text: &[WSym], keys: &[u32], kids: &[Part]) -> Result<Subst, Memory>
     requires differ { AllDiffer keys.now }
     requires many { length kids.now ≡ length keys.now }
     requires within { AreWithin text.now kids.now }
@@ -153,17 +148,7 @@ fn lay_part(
     }
     let step = step_of(alloc, db, search, goal, text, rows, part)?;
     for kid in &step.kids {
-        lay_part(
-            alloc,
-            db,
-            search,
-            goal,
-            text,
-            rows,
-            *kid,
-            left - 1,
-            plan,
-        )?;
+        lay_part(alloc, db, search, goal, text, rows, *kid, left - 1, plan)?;
     }
     let target = string_of(alloc, text, part)?;
     let sigma = values_by(alloc, text, step.keys.as_slice(), step.kids.as_slice())?;

@@ -1,4 +1,4 @@
-use Rattle.std.proofs.Common.{◌≡◌, ◌<◌, ◌&&◌, [], ℕ, Bool, Some, true, false, length, sym, ◌∙◌, ap, arith, get_or}
+use Rattle.std.proofs.Common.{◌≡◌, ◌<◌, [], Bool, Some, true, false, length, sym, ◌∙◌, ap, arith, get_or}
 use Rattle.std.proofs.lemmas.Bool.{and_from, and_left, and_right}
 use Rattle.mm_subst.specs.Symbols.{is_same}
 use Rattle.mm_improve.specs.Items.{Hypothesis, same_goal, same_string}

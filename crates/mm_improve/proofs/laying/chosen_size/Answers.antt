@@ -1,5 +1,4 @@
 use Rattle.std.proofs.Common.{◌≡◌, ◌∷◌, ℕ, Ok, length, sym, ◌∙◌, ap, subst}
-use Rattle.mm_improve.specs.declared.choice.Choice.{Choice}
 use Rattle.mm_improve.specs.Choices.{Chooses}
 use Rattle.mm_improve.specs.Laying.{IsCounted}
 use Rattle.mm_improve.specs.Proving.{chosen_tree, rank_limit}

@@ -1,4 +1,4 @@
-use Rattle.std.proofs.Common.{◌≡◌, ◌-◌, ℕ, List, [], suc, refl, arith, subst}
+use Rattle.std.proofs.Common.{◌-◌, ℕ, List, [], refl, arith, subst}
 use Rattle.mm_subst.specs.declared.symbol.WSym.{WSym}
 use Rattle.mm_subst.specs.Substitutions.{Pairs}
 use Rattle.mm_plain.specs.Shape.{known}
