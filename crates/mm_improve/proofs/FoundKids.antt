@@ -191,10 +191,10 @@ module _ (c : Terms) (d : ℕ) (u : Use) (serves : serves_at c d u ≡ true) whe
   pub none-left : (g : List WSym) (old new : Plan) (left : ℕ) → left ≡ 0 → LaysFound old (proof_by c (proof_of c d) g u) left (Err TooDeep) new
   none-left g old new left e = found-err g old new left TooDeep (omega (arith, e, height-known g))
 
-  pub kids-fail : {A : Type 0} (g : List WSym) (old new : Plan) (n left : ℕ) (f : ImproveFault) → left ≡ n + 1 → LaysTrees {A = A} old trees n (Err f) new → LaysFound old (proof_by c (proof_of c d) g u) left (Err f) new
-  kids-fail {A} g old new n left TooManySteps e h = found-err g old new left TooManySteps (omega (arith, h, counted-known g u.id u.sigma trees))
-  kids-fail {A} g old new n left TooDeep e h = found-err g old new left TooDeep (omega (arith, e, h, height-known g))
-  kids-fail {A} g old new n left Memory e h = found-err g old new left Memory tt
+  pub kids-fail : (A : Type 0) (g : List WSym) (old new : Plan) (n left : ℕ) (f : ImproveFault) → left ≡ n + 1 → LaysTrees {A = A} old trees n (Err f) new → LaysFound old (proof_by c (proof_of c d) g u) left (Err f) new
+  kids-fail A g old new n left TooManySteps e h = found-err g old new left TooManySteps (omega (arith, h, counted-known g u.id u.sigma trees))
+  kids-fail A g old new n left TooDeep e h = found-err g old new left TooDeep (omega (arith, e, h, height-known g))
+  kids-fail A g old new n left Memory e h = found-err g old new left Memory tt
 
   pub no-room : (g : List WSym) (old now : Plan) (n left : ℕ) → AreLaid old trees n now → most_steps ≤ steps_in now → LaysFound old (proof_by c (proof_of c d) g u) left (Err TooManySteps) now
   no-room g old now n left a h = found-err g old now left TooManySteps (omega (arith, h, laid-steps old now trees a.standing, counted-known g u.id u.sigma trees))

@@ -189,7 +189,7 @@ lay_use-returns-in_err-lay_premises t c =
     let f : ImproveFault = c.in_err-lay_premises.field-0.0 in
     let new : Plan = c.lay_premises.new.plan in
     lays-err old new (proof_by k (proof_of k d) g u) left c.from_residual.result f (same_error c.from_residual.result f c.from_residual.ensures.1 c.from_residual.ensures.0)
-    (kids-fail k d u c.requires.serves g old new c.in-Some.left left f (omega (arith, c.in-Some.ensures)) c.in_err-lay_premises.ensures)
+    (kids-fail k d u c.requires.serves (Unit {0}) g old new c.in-Some.left left f (omega (arith, c.in-Some.ensures)) c.in_err-lay_premises.ensures)
 
 pub lay_use-returns-then-steps-ge-MOST_STEPS : goal.lay_use-returns-then-steps-ge-MOST_STEPS
 lay_use-returns-then-steps-ge-MOST_STEPS t c =
