@@ -40,3 +40,8 @@ pub mod LayingLemmas
 pub mod EmptyGoals
 pub mod Bare
 pub mod ChoiceLemmas
+pub mod FoundValues
+pub mod FoundLists
+pub mod FoundProofs
+pub mod FoundKids
+pub mod FoundLays

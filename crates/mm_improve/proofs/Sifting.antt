@@ -16,7 +16,7 @@ range_more a (suc n) =
     ∙ ap (λ (k : ℕ). a ∷ (range_with_len (suc a) n ++ k ∷ [])) e
     ∙ sym (ap (λ (ks : List ℕ). ks ++ (a + suc n) ∷ []) before)
 
-first_more : (n : ℕ) → range_with_len 0 (n + 1) ≡ range_with_len 0 n ++ n ∷ []
+pub first_more : (n : ℕ) → range_with_len 0 (n + 1) ≡ range_with_len 0 n ++ n ∷ []
 first_more n =
     let next : n + 1 ≡ suc n = omega arith in
     let same : 0 + n ≡ n = omega arith in

@@ -12,3 +12,4 @@ pub mod Laying
 pub mod Proofs
 pub mod Choices
 pub mod Steps
+pub mod Finding

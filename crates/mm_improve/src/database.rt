@@ -103,7 +103,7 @@ fn pattern_of(alloc: Global, db: &Database, id: StmtId) -> Result<Pattern, Memor
 }
 
 /// Whether a statement is a `$e`.
-fn is_essential(db: &Database, id: StmtId) -> bool
+pub fn is_essential(db: &Database, id: StmtId) -> bool
     requires { id.0 < length (labels_of db.now) }
     ensures { result ≡ is_essential (stated_at db.now id.0).kind }
 {
@@ -124,6 +124,18 @@ fn some_essential(db: &Database, ids: &[u32]) -> bool
         }
     }
     false
+}
+
+/// Whether an assertion has a `$e` hypothesis.
+#[tactic(auto, unfolding(mm_plain::specs::Premises::premise_ids))]
+pub fn has_essential(db: &Database, id: StmtId) -> bool
+    requires { id.0 < length (labels_of db.now) }
+    ensures { result ≡ has_essential db.now id.0 }
+{
+    match db.kind(id) {
+        Kind::Float | Kind::Essential => false,
+        Kind::Axiom | Kind::Theorem => some_essential(db, db.frame(id).mandatory.as_slice()),
+    }
 }
 
 fn occurs(variable: u32, symbols: &[u32]) -> bool
@@ -149,21 +161,24 @@ fn all_occur(variables: &[u32], symbols: &[u32]) -> bool
     true
 }
 
-/// Whether a statement is an assertion without `$e` that may be used.
-#[tactic(auto, unfolding(mm_plain::specs::Premises::premise_ids))]
-fn is_plain(alloc: Global, db: &Database, id: StmtId, search: Search) -> Result<bool, Memory>
+/// Whether a statement is an assertion that may be used.
+pub fn may_be_used(
+    alloc: Global,
+    db: &Database,
+    id: StmtId,
+    search: Search,
+) -> Result<bool, Memory>
     requires { id.0 < length (labels_of db.now) }
-    ensures { IfOk result (λ b. b ≡ (may_be_used (terms db.now search) id.0 && not (has_essential db.now id.0))) }
+    ensures { IfOk result (λ b. b ≡ may_be_used (terms db.now search) id.0) }
 {
     match db.kind(id) {
         Kind::Float | Kind::Essential => Ok(false),
-        Kind::Axiom | Kind::Theorem => is_plain_assertion(alloc, db, id, search),
+        Kind::Axiom | Kind::Theorem => may_use_assertion(alloc, db, id, search),
     }
 }
 
 /// The same of an assertion.
-#[tactic(auto, unfolding(mm_plain::specs::Premises::premise_ids))]
-fn is_plain_assertion(
+fn may_use_assertion(
     alloc: Global,
     db: &Database,
     id: StmtId,
@@ -171,13 +186,10 @@ fn is_plain_assertion(
 ) -> Result<bool, Memory>
     requires own { id.0 < length (labels_of db.now) }
     requires assertion { is_hypothesis (stated_at db.now id.0).kind ≡ false }
-    ensures { IfOk result (λ b. b ≡ (may_be_used (terms db.now search) id.0 && not (has_essential db.now id.0))) }
+    ensures { IfOk result (λ b. b ≡ may_be_used (terms db.now search) id.0) }
 {
     let frame = db.frame(id);
     if search.no_distinct && !frame.pairs.as_slice().is_empty() {
-        return Ok(false);
-    }
-    if some_essential(db, frame.mandatory.as_slice()) {
         return Ok(false);
     }
     let variables = variables_for(alloc, db, id)?;
@@ -185,6 +197,17 @@ fn is_plain_assertion(
         return Ok(false);
     }
     Ok(!db.usage_guarded(id))
+}
+
+/// Whether a statement is an assertion without `$e` that may be used.
+fn is_plain(alloc: Global, db: &Database, id: StmtId, search: Search) -> Result<bool, Memory>
+    requires { id.0 < length (labels_of db.now) }
+    ensures { IfOk result (λ b. b ≡ (may_be_used (terms db.now search) id.0 && not (has_essential db.now id.0))) }
+{
+    if has_essential(db, id) {
+        return Ok(false);
+    }
+    may_be_used(alloc, db, id, search)
 }
 
 /// Whether a symbol is the typecode of some `$f`.

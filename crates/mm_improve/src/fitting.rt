@@ -60,7 +60,7 @@ fn is_parted(groups: &Parted, symbol: WSym, other: &[WSym]) -> bool
 }
 
 /// Whether each variable of one string must differ from each of another.
-fn are_parted(groups: &Parted, one: &[WSym], other: &[WSym]) -> bool
+pub fn are_parted(groups: &Parted, one: &[WSym], other: &[WSym]) -> bool
     ensures { result ≡ are_parted groups.now one.now other.now }
 {
     for symbol in one {
