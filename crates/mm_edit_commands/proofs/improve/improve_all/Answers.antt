@@ -1,5 +1,6 @@
 use Rattle.std.proofs.Common.{ℕ, zero, suc, refl, ◌≡◌, ◌<◌, [], Ok, Err, sym, ◌∙◌, ap, subst, arith}
 use Rattle.std.specs.Prelude.{Result}
+use Rattle.mm_stated.specs.Stated.{is_hypothesis}
 use Rattle.mm_plain.specs.Shape.{Proof}
 use Rattle.mm_edit.specs.Improving.{all_improved}
 use Rattle.mm_edit.specs.declared.edit_fault.EditFault.{EditFault}
@@ -13,6 +14,9 @@ use Rattle.mm_edit_commands.proofs.EditFits.{of_target}
 use Rattle.mm_edit_commands.proofs.EditLemmas.{edit_done, edit_refused}
 use Rattle.mm_edit_commands.specs.Refusals.{edit_refusal}
 use Rattle.mm_edit_commands.proofs.improve.improve_all.Goals as goal
+
+pub improve_all-requires-clause-assertion : goal.improve_all-requires-clause-assertion
+improve_all-requires-clause-assertion g c = ap is_hypothesis c.requires.theorem
 
 pub improve_all-requires-clause-valid : goal.improve_all-requires-clause-valid
 improve_all-requires-clause-valid g c = of_target c.args.database.now c.args.theorem.0 c.args.tree.now.proof c.requires.valid

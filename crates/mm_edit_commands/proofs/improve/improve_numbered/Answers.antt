@@ -1,4 +1,5 @@
-use Rattle.std.proofs.Common.{ℕ, [], Err, subst}
+use Rattle.std.proofs.Common.{ℕ, [], Err, ap, subst}
+use Rattle.mm_stated.specs.Stated.{is_hypothesis}
 use Rattle.mm_shell.specs.Answers.{or_refusal}
 use Rattle.mm_edit_commands.specs.Edits.{EditsTree}
 use Rattle.mm_edit.specs.Improving.{improved}
@@ -7,6 +8,9 @@ use Rattle.mm_edit_commands.proofs.EditFits.{of_target}
 use Rattle.mm_edit_commands.proofs.EditLemmas.{edit_done, edit_refused}
 use Rattle.mm_edit_commands.specs.Refusals.{edit_refusal}
 use Rattle.mm_edit_commands.proofs.improve.improve_numbered.Goals as goal
+
+pub improve-requires-clause-assertion : goal.improve-requires-clause-assertion
+improve-requires-clause-assertion g c = ap is_hypothesis c.requires.theorem
 
 pub improve-requires-clause-valid : goal.improve-requires-clause-valid
 improve-requires-clause-valid g c = of_target c.args.database.now c.args.theorem.0 c.args.tree.now.proof c.requires.valid
