@@ -96,22 +96,22 @@ fn able(alloc: Global, rules: &Rules, symbol: WSym) -> Result<Vec<usize>, Memory
     Ok(numbers)
 }
 
-/// The assertions that can match a string with a first symbol.
+/// A first symbol, with the assertions that can match a string which begins with it.
 #[derive(Drop)]
-struct Able {
+struct Beginning {
     symbol: WSym,
     numbers: Vec<usize>,
 }
 
 /// What is known already of a first symbol.
-fn known_for<'a>(rules: &Rules, known: &'a [Able], symbol: WSym) -> Option<&'a Able>
+fn known_for<'a>(rules: &Rules, known: &'a [Beginning], symbol: WSym) -> Option<&'a Beginning>
     requires able { All (λ a. AreAble rules.now a.symbol a.numbers.items) known.now }
     ensures { IfSome result (λ a. AreAble rules.now symbol a.now.numbers.items) }
 {
     let _ = rules;
-    for able in known {
-        if able.symbol.is_same(symbol) {
-            return Some(able);
+    for beginning in known {
+        if beginning.symbol.is_same(symbol) {
+            return Some(beginning);
         }
     }
     None
@@ -254,7 +254,7 @@ fn fill_next_row(
     rules: &Rules,
     text: &[WSym],
     rows: &mut Rows,
-    known: &mut Vec<Able>,
+    known: &mut Vec<Beginning>,
     at: usize,
 ) -> Result<(), Memory>
     requires within { at < length text.now }
@@ -266,12 +266,12 @@ fn fill_next_row(
     ensures filled { IfOk result (λ _. IsFilled rules.now text.now rows.new at (suc (length text.now))) }
 {
     let symbol = text[at];
-    if let Some(able) = known_for(rules, known.as_slice(), symbol) {
-        return fill_row(alloc, rules, text, rows, able.numbers.as_slice(), at);
+    if let Some(beginning) = known_for(rules, known.as_slice(), symbol) {
+        return fill_row(alloc, rules, text, rows, beginning.numbers.as_slice(), at);
     }
     let numbers = able(alloc, rules, symbol)?;
     fill_row(alloc, rules, text, rows, numbers.as_slice(), at)?;
-    known.push(Able { symbol, numbers })?;
+    known.push(Beginning { symbol, numbers })?;
     Ok(())
 }
 
