@@ -15,8 +15,8 @@ ghost use Rattle.mm_improve.specs.Searches.{terms};
 
 use crate::database::{Search, has_essential, is_essential, may_be_used};
 use crate::laying::has_chosen;
-use crate::prover::Prover;
 use crate::matching::{Use, matches_of};
+use crate::prover::Prover;
 use mm_scope::{Database, StmtId};
 use mm_subst::{Memory, Subst, TooLongOrMemory, WStr, apply, statement};
 use mm_tree::hypotheses;

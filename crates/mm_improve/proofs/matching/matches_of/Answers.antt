@@ -78,6 +78,6 @@ returns-clause-matches c =
     let k = terms bytes c.args.prover.now.search in
     c.loop-theta.invariant.matches
     ∙ ap (λ xs. filter (are_apart k id) (map (sigma_by bytes id) xs))
-      (take_all c.loop-theta.theta-index c.deref-theta-items.result.now c.loop-theta-test.false ∙ c.deref-theta-items.ensures.value ∙ c.in_ok-listing.ensures.found
-      ∙ ap (λ (p : Prover). (answer (forbidden bytes p.search.rule) None c.args.goal.now c.in_ok-pattern.pattern).found) c.prover.view_is
-      ∙ ap (λ p. (answer (forbidden bytes c.args.prover.now.search.rule) None c.args.goal.now p).found) c.in_ok-pattern.ensures)
+    (take_all c.loop-theta.theta-index c.deref-theta-items.result.now c.loop-theta-test.false ∙ c.deref-theta-items.ensures.value ∙ c.in_ok-listing.ensures.found
+    ∙ ap (λ (p : Prover). (answer (forbidden bytes p.search.rule) None c.args.goal.now c.in_ok-pattern.pattern).found) c.prover.view_is
+    ∙ ap (λ p. (answer (forbidden bytes c.args.prover.now.search.rule) None c.args.goal.now p).found) c.in_ok-pattern.ensures)
