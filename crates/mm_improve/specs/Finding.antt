@@ -1,5 +1,5 @@
 -- The search for the proof of a goal at a depth.
-use Rattle.std.specs.Prelude.{◌≡◌, ◌≤◌, ◌<◌, ◌+◌, ℕ, Bool, ◌&&◌, List, [], ◌++◌, map, filter, length, Option, None, Some, Result, Ok, Err, All}
+use Rattle.std.specs.Prelude.{◌≡◌, ◌≤◌, ◌<◌, ◌+◌, ℕ, Bool, ◌&&◌, List, [], ◌++◌, map, length, Option, None, Some, Result, Ok, Err, All}
 use Rattle.std.specs.List.{sum_by}
 use Rattle.mm_scope.specs.Contents.{labels_of}
 use Rattle.mm_subst.specs.declared.symbol.WSym.{WSym}

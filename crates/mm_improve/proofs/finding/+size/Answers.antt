@@ -1,4 +1,4 @@
-use Rattle.std.proofs.Common.{◌≡◌, ◌≤◌, ◌<◌, ◌-◌, ◌+◌, ℕ, List, Option, None, Some, Result, Ok, Err, MatchOption, IfSome, sym, ◌∙◌, ap, arith, subst, true, length, get_or}
+use Rattle.std.proofs.Common.{◌≡◌, ◌-◌, ◌+◌, ℕ, List, Option, Ok, Err, MatchOption, IfSome, sym, ◌∙◌, ap, arith, subst, true, length, get_or}
 use Rattle.mm_subst.specs.declared.symbol.WSym.{WSym}
 use Rattle.mm_subst.specs.Statements.{statement_of}
 use Rattle.mm_subst.specs.Substitutions.{applied}

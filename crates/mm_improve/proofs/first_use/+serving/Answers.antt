@@ -1,4 +1,4 @@
-use Rattle.std.proofs.Common.{◌≡◌, ◌<◌, ◌-◌, ◌∷◌, [], ℕ, Bool, true, false, List, Option, None, Some, MatchOption, IfSome, sym, ◌∙◌, ap, arith, subst, get_or, map, flat_map, length, refl}
+use Rattle.std.proofs.Common.{◌≡◌, ◌-◌, ℕ, Bool, true, List, Option, Some, MatchOption, IfSome, sym, ◌∙◌, ap, arith, subst, map}
 use Rattle.std.specs.List.{AllByRecursion, list_all}
 use Rattle.mm_subst.specs.declared.symbol.WSym.{WSym}
 use Rattle.mm_subst.specs.Statements.{statement_of}

@@ -1,7 +1,7 @@
-use Rattle.std.proofs.Common.{◌≡◌, ◌∷◌, ◌++◌, [], ℕ, Bool, List, None, inl, sym, ◌∙◌, ap, subst, map, filter, take, get_or}
+use Rattle.std.proofs.Common.{◌≡◌, ◌∷◌, ◌++◌, [], ℕ, List, None, inl, sym, ◌∙◌, ap, subst, map, filter, take}
 use Rattle.std.specs.List.{All, AllByRecursion, list_all}
 use Rattle.std.proofs.lemmas.List.{take_all}
-use Rattle.mm_scope.specs.Contents.{statements_of, stated_at, distinct_at}
+use Rattle.mm_scope.specs.Contents.{statements_of, stated_at}
 use Rattle.mm_scope.specs.Laws.{AllDiffer}
 use Rattle.mm_stated.specs.Mandatory.{variables_of}
 use Rattle.mm_subst.specs.declared.symbol.WSym.TheVariants.{Var}
