@@ -45,3 +45,4 @@ pub mod FoundLists
 pub mod FoundProofs
 pub mod FoundKids
 pub mod FoundLays
+pub mod FoundTrees

@@ -1,5 +1,5 @@
 -- The search for the proof of a goal at a depth.
-use Rattle.std.specs.Prelude.{◌≡◌, ◌≤◌, ◌<◌, ◌+◌, ℕ, Bool, ◌&&◌, List, [], ◌++◌, map, filter, length, Option, None, Some, Result, Ok, Err, All}
+use Rattle.std.specs.Prelude.{◌≡◌, ◌≤◌, ◌<◌, ◌+◌, ℕ, Bool, ◌&&◌, List, [], ◌++◌, map, length, Option, None, Some, Result, Ok, Err, All}
 use Rattle.std.specs.List.{sum_by}
 use Rattle.mm_scope.specs.Contents.{labels_of}
 use Rattle.mm_subst.specs.declared.symbol.WSym.{WSym}
@@ -23,8 +23,8 @@ abbrev pub HasStrings : List ℕ → ℕ → Pairs → Type 0
 HasStrings bytes at sigma = All (λ p. IsString (first_setting bytes at) p.1) sigma
 
 -- an assertion with `$e` that may be used
-abbrev pub may_lead : Terms → ℕ → Bool
-may_lead c id = may_be_used c id && has_essential c.bytes id
+abbrev pub may_serve : Terms → ℕ → Bool
+may_serve c id = may_be_used c id && has_essential c.bytes id
 
 -- the proofs of the goals of all hypotheses under a substitution
 abbrev pub premise_proofs : Terms → ℕ → Use → List (Option Plain)

@@ -162,12 +162,7 @@ fn all_occur(variables: &[u32], symbols: &[u32]) -> bool
 }
 
 /// Whether a statement is an assertion that may be used.
-pub fn may_be_used(
-    alloc: Global,
-    db: &Database,
-    id: StmtId,
-    search: Search,
-) -> Result<bool, Memory>
+pub fn may_be_used(alloc: Global, db: &Database, id: StmtId, search: Search) -> Result<bool, Memory>
     requires { id.0 < length (labels_of db.now) }
     ensures { IfOk result (λ b. b ≡ may_be_used (terms db.now search) id.0) }
 {

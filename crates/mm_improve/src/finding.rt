@@ -3,11 +3,10 @@
 ghost use Rattle.std.specs.Prelude.{◌≡◌, ◌<◌, ℕ, List, length, true};
 ghost use Rattle.mm_scope.specs.Contents.{labels_of};
 ghost use Rattle.mm_subst.specs.declared.symbol.WSym.{WSym};
-ghost use Rattle.mm_plain.specs.Shape.{known};
 ghost use Rattle.mm_plain.specs.Valid.{IsString, first_setting};
 ghost use Rattle.mm_tree.specs.Plans.{IsPlan};
 ghost use Rattle.mm_improve.specs.Finding.{HasStrings, IsOwnUse, LaysTrees, kids_at, serves_at};
-ghost use Rattle.mm_improve.specs.Laying.{IsCounted, IsReady, LaysFound, LaysTree};
+ghost use Rattle.mm_improve.specs.Laying.{IsCounted, IsReady, LaysFound};
 ghost use Rattle.mm_improve.specs.Proving.{premise_proof, proof_by, proof_of};
 ghost use Rattle.mm_improve.specs.Searches.{terms};
 

@@ -7,7 +7,7 @@ ghost use Rattle.mm_subst.specs.Substitutions.{applied};
 ghost use Rattle.mm_plain.specs.Lengths.{is_long};
 ghost use Rattle.mm_plain.specs.Valid.{IsString, first_setting};
 ghost use Rattle.mm_improve.specs.Assertions.{matches};
-ghost use Rattle.mm_improve.specs.Finding.{HasStrings, IsOwnUse, may_lead, serves_at};
+ghost use Rattle.mm_improve.specs.Finding.{HasStrings, IsOwnUse, may_serve, serves_at};
 ghost use Rattle.mm_improve.specs.Laying.{IsReady};
 ghost use Rattle.mm_improve.specs.Options.{first, is_there};
 ghost use Rattle.mm_improve.specs.Proving.{essential_uses, premise_proof, proof_of};
@@ -15,8 +15,8 @@ ghost use Rattle.mm_improve.specs.Searches.{terms};
 
 use crate::database::{Search, has_essential, is_essential, may_be_used};
 use crate::laying::has_chosen;
-use crate::prover::Prover;
 use crate::matching::{Use, matches_of};
+use crate::prover::Prover;
 use mm_scope::{Database, StmtId};
 use mm_subst::{Memory, Subst, TooLongOrMemory, WStr, apply, statement};
 use mm_tree::hypotheses;
@@ -42,9 +42,9 @@ pub fn premise_goal(
 }
 
 /// Whether a statement is an assertion with `$e` that may be used.
-fn may_lead(alloc: Global, db: &Database, id: StmtId, search: Search) -> Result<bool, Memory>
+fn may_serve(alloc: Global, db: &Database, id: StmtId, search: Search) -> Result<bool, Memory>
     requires { id.0 < length (labels_of db.now) }
-    ensures { IfOk result (λ b. b ≡ may_lead (terms db.now search) id.0) }
+    ensures { IfOk result (λ b. b ≡ may_serve (terms db.now search) id.0) }
 {
     if has_essential(db, id) {
         may_be_used(alloc, db, id, search)
@@ -92,7 +92,7 @@ pub fn serving_use(
 {
     for number in 0..prover.search.at.0 {
         let id = StmtId(number);
-        if may_lead(alloc, db, id, prover.search)? {
+        if may_serve(alloc, db, id, prover.search)? {
             if let Some(sigma) = serving_match(alloc, db, prover, goal, id, depth)? {
                 return Ok(Some(Use { id, sigma }));
             }
@@ -114,7 +114,7 @@ fn serving_match(
     requires ready { IsReady db.now prover.now }
     requires string { IsString (first_setting db.now prover.now.search.at.0) goal.now }
     requires own { id.0 < length (labels_of db.now) }
-    requires leads { may_lead (terms db.now prover.now.search) id.0 ≡ true }
+    requires usable { may_serve (terms db.now prover.now.search) id.0 ≡ true }
     ensures first { IfOk result (λ o. o ≡ first (λ s. serves_at (terms db.now prover.now.search) depth (record { id = id.0; sigma = s })) (matches (terms db.now prover.now.search) goal.now id.0)) }
     ensures values { IfOk result (λ o. IfSome o (HasStrings db.now prover.now.search.at.0)) }
 {

@@ -6,6 +6,7 @@ use Rattle.mm_improve.proofs.filling.chart.Goals as goal
 
 pub loop-at-init : goal.loop-at-init
 loop-at-init c = record {
+  able = λ k d l. absurd (omega (arith, l, ap length c.new-known.ensures.items));
   within = omega arith;
   long = ap (λ (rows : Rows). length rows) c.in_ok-rows.ensures ∙ length-replicate {A = List Noted} (length c.args.text.now) [];
   filled = filled_start c.args.rules.now c.args.text.now c.in_ok-rows.rows c.in_ok-rows.ensures;

@@ -1,4 +1,4 @@
-use Rattle.std.proofs.Common.{◌≡◌, ◌≤◌, ◌<◌, ◌-◌, ◌+◌, ℕ, List, Option, None, Some, Result, Ok, Err, MatchOption, IfSome, Bool, sym, refl, ◌∙◌, ap, arith, subst, true, false, length, drop, get_or}
+use Rattle.std.proofs.Common.{◌≡◌, ◌-◌, ℕ, List, Option, Ok, Err, MatchOption, IfSome, Bool, sym, refl, ◌∙◌, ap, arith, subst, true, length, drop, get_or}
 use Rattle.mm_subst.specs.declared.symbol.WSym.{WSym}
 use Rattle.mm_subst.specs.Statements.{statement_of}
 use Rattle.mm_subst.specs.Substitutions.{applied}
@@ -7,18 +7,18 @@ use Rattle.mm_plain.specs.Lengths.{is_long}
 use Rattle.mm_plain.specs.Shape.{known}
 use Rattle.mm_plain.specs.Premises.{premise_ids}
 use Rattle.mm_plain.specs.Valid.{IsString, first_setting}
-use Rattle.mm_tree.specs.Plans.{Grove, IsPlan, grove_of, grown}
+use Rattle.mm_tree.specs.Plans.{IsPlan, grove_of, grown}
 use Rattle.mm_tree.specs.declared.plan.Plan.{Plan}
 use Rattle.mm_tree.proofs.Rooms.{same_error}
 use Rattle.mm_improve.specs.Finding.{HasStrings, IsOwnUse}
-use Rattle.mm_improve.specs.Laying.{IsLaid, LaysFound}
+use Rattle.mm_improve.specs.Laying.{LaysFound}
 use Rattle.mm_improve.specs.Proving.{chosen_tree, premise_proof, proof_by, proof_of}
 use Rattle.mm_improve.specs.Ranks.{Use}
 use Rattle.mm_improve.specs.Searches.{terms}
 use Rattle.mm_improve.specs.declared.fault.ImproveFault.{ImproveFault}
 use Rattle.mm_improve.proofs.FoundKids.{kids-fail, laid-all, laid-more, lay-fails, no-room, none-left, stepped, takes-few}
 use Rattle.mm_improve.proofs.FoundLays.{fails-chosen, lays-behind, lays-chosen, lays-err, lays-none, lays-nothing, lays-same}
-use Rattle.mm_improve.proofs.FoundProofs.{by_use, found_at_zero, found_by, found_chosen, not_there, premise_essential, premise_floated, premise_long, string_short, used_serves}
+use Rattle.mm_improve.proofs.FoundProofs.{by_use, found_at_zero, found_by, premise_long, string_short, used_serves}
 use Rattle.mm_improve.proofs.finding.+lay.Goals as goal
 
 pub lay_found-returns-in_err-lay_chosen : goal.lay_found-returns-in_err-lay_chosen

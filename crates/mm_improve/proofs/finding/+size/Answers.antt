@@ -1,4 +1,4 @@
-use Rattle.std.proofs.Common.{◌≡◌, ◌≤◌, ◌<◌, ◌-◌, ◌+◌, ℕ, List, Option, None, Some, Result, Ok, Err, MatchOption, IfSome, sym, ◌∙◌, ap, arith, subst, true, length, get_or}
+use Rattle.std.proofs.Common.{◌≡◌, ◌-◌, ◌+◌, ℕ, List, Option, Ok, Err, MatchOption, IfSome, sym, ◌∙◌, ap, arith, subst, true, length, get_or}
 use Rattle.mm_subst.specs.declared.symbol.WSym.{WSym}
 use Rattle.mm_subst.specs.Statements.{statement_of}
 use Rattle.mm_subst.specs.Substitutions.{applied}
@@ -107,7 +107,7 @@ use_size-returns-in_err-steps t c =
     let f : ImproveFault = c.in_err-steps.field-0.0 in
     let failed : Option Plain → Type 0 = λ o. IsCounted o (Err f) in
     λ g. counts-err (proof_by k (proof_of k d) g u) c.from_residual.result f (same_error c.from_residual.result f c.from_residual.ensures.1 c.from_residual.ensures.0)
-        (count-fails k d u c.requires.serves i f (omega arith) (subst failed same c.in_err-steps.ensures) g)
+    (count-fails k d u c.requires.serves i f (omega arith) (subst failed same c.in_err-steps.ensures) g)
 
 pub use_size-overflow_add-steps : goal.use_size-overflow_add-steps
 use_size-overflow_add-steps t c =

@@ -1,4 +1,4 @@
-use Rattle.std.proofs.Common.{◌≡◌, ◌<◌, ◌-◌, ◌∷◌, [], ℕ, Bool, true, false, List, Option, None, Some, MatchOption, IfSome, sym, ◌∙◌, ap, arith, subst, get_or, map, flat_map, length, refl}
+use Rattle.std.proofs.Common.{◌≡◌, ◌-◌, ℕ, Bool, true, List, Option, Some, MatchOption, IfSome, sym, ◌∙◌, ap, arith, subst, map}
 use Rattle.std.specs.List.{AllByRecursion, list_all}
 use Rattle.mm_subst.specs.declared.symbol.WSym.{WSym}
 use Rattle.mm_subst.specs.Statements.{statement_of}
@@ -6,7 +6,7 @@ use Rattle.mm_subst.specs.Substitutions.{Pairs, applied}
 use Rattle.mm_plain.specs.Lengths.{is_long}
 use Rattle.mm_plain.specs.Valid.{IsString, first_setting}
 use Rattle.mm_improve.specs.Assertions.{matches}
-use Rattle.mm_improve.specs.Finding.{HasStrings, may_lead, serves_at}
+use Rattle.mm_improve.specs.Finding.{HasStrings, may_serve, serves_at}
 use Rattle.mm_improve.specs.Options.{first, is_there, on}
 use Rattle.mm_improve.specs.Proving.{premise_proof, proof_of}
 use Rattle.mm_improve.specs.Ranks.{Use}
@@ -96,7 +96,7 @@ serving_use-returns-in-Some-clause-first t c =
     let by : Pairs → Use = λ s. record { id = n; sigma = s } in
     let f : ℕ → List Use = λ id. map (λ s. record { id = id; sigma = s }) (matches k g id) in
     let here : first p (f n) ≡ Some (by c.in-Some.sigma) = first_map p by (matches k g n) ∙ ap (on by) (sym c.in_ok-sigma.ensures.first ∙ c.in-Some.is) in
-    sym (found_here f (may_lead k) p n c.args.prover.now.search.at.0 (by c.in-Some.sigma) c.loop-number-test.true c.loop-number.invariant (sym c.in_ok-may_lead.ensures ∙ c.if-branch.true) here)
+    sym (found_here f (may_serve k) p n c.args.prover.now.search.at.0 (by c.in-Some.sigma) c.loop-number-test.true c.loop-number.invariant (sym c.in_ok-may_serve.ensures ∙ c.if-branch.true) here)
 
 pub serving_use-loop-number-preserved : goal.serving_use-loop-number-preserved
 serving_use-loop-number-preserved t c =
@@ -107,6 +107,6 @@ serving_use-loop-number-preserved t c =
     let by : Pairs → Use = λ s. record { id = n; sigma = s } in
     let f : ℕ → List Use = λ id. map (λ s. record { id = id; sigma = s }) (matches k g id) in
     elim c.if-branch.branch [
-      | serving_use-then-branch+in_ok-sigma+in_default w ↦ found_later f (may_lead k) p n c.loop-number.invariant (first_map p by (matches k g n) ∙ ap (on by) (sym w.in_ok-sigma.ensures.first ∙ w.in_default.is))
-      | serving_use-else-branch w ↦ found_passed f (may_lead k) p n c.loop-number.invariant (sym c.in_ok-may_lead.ensures ∙ w.if-branch.false)
+      | serving_use-then-branch+in_ok-sigma+in_default w ↦ found_later f (may_serve k) p n c.loop-number.invariant (first_map p by (matches k g n) ∙ ap (on by) (sym w.in_ok-sigma.ensures.first ∙ w.in_default.is))
+      | serving_use-else-branch w ↦ found_passed f (may_serve k) p n c.loop-number.invariant (sym c.in_ok-may_serve.ensures ∙ w.if-branch.false)
     ]

@@ -1,7 +1,7 @@
 use Rattle.std.proofs.Common.{◌≡◌, ◌+◌, ◌*◌, None, drop, filter, map, take}
 use Rattle.std.specs.List.{flat_map, list_all, range_with_len}
 use Rattle.mm_improve.specs.Assertions.{matches}
-use Rattle.mm_improve.specs.Finding.{may_lead, serves_at}
+use Rattle.mm_improve.specs.Finding.{may_serve, serves_at}
 use Rattle.mm_improve.specs.Options.{first, is_there}
 use Rattle.mm_improve.specs.Proving.{premise_proof, proof_of}
 use Rattle.mm_improve.specs.Searches.{terms}
@@ -24,7 +24,7 @@ decreases-has_premise l = 5 * l.depth + 1
 
 abbrev pub invariant-serving_use-loop-number : goal.invariant-serving_use-loop-number
 invariant-serving_use-loop-number l =
-    first (serves_at (terms l.db l.prover.search) l.depth) (flat_map (λ id. map (λ sigma. record { id = id; sigma = sigma }) (matches (terms l.db l.prover.search) l.goal id)) (filter (may_lead (terms l.db l.prover.search)) (range_with_len 0 l.number))) ≡ None
+    first (serves_at (terms l.db l.prover.search) l.depth) (flat_map (λ id. map (λ sigma. record { id = id; sigma = sigma }) (matches (terms l.db l.prover.search) l.goal id)) (filter (may_serve (terms l.db l.prover.search)) (range_with_len 0 l.number))) ≡ None
 
 abbrev pub invariant-serving_match-loop-sigma : goal.invariant-serving_match-loop-sigma
 invariant-serving_match-loop-sigma l =

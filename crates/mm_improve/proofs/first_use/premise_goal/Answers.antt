@@ -1,7 +1,6 @@
-use Rattle.std.proofs.Common.{◌≤◌, List, subst, sym, length, ◌∙◌}
+use Rattle.std.proofs.Common.{◌≤◌, List, subst, sym, length}
 use Rattle.mm_subst.specs.Applied.{most_symbols}
 use Rattle.mm_subst.specs.Substitutions.{applied}
-use Rattle.mm_subst.specs.Statements.{statement_of}
 use Rattle.mm_subst.specs.declared.symbol.WSym.{WSym}
 use Rattle.mm_plain.specs.Valid.{IsString, first_setting}
 use Rattle.mm_improve.proofs.FoundValues.{premise_string}

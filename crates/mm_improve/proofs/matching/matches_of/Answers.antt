@@ -1,7 +1,7 @@
-use Rattle.std.proofs.Common.{◌≡◌, ◌∷◌, ◌++◌, [], ℕ, Bool, List, None, inl, sym, ◌∙◌, ap, subst, map, filter, take, get_or}
+use Rattle.std.proofs.Common.{◌≡◌, ◌∷◌, ◌++◌, [], ℕ, List, None, inl, sym, ◌∙◌, ap, subst, map, filter, take}
 use Rattle.std.specs.List.{All, AllByRecursion, list_all}
 use Rattle.std.proofs.lemmas.List.{take_all}
-use Rattle.mm_scope.specs.Contents.{statements_of, stated_at, distinct_at}
+use Rattle.mm_scope.specs.Contents.{statements_of, stated_at}
 use Rattle.mm_scope.specs.Laws.{AllDiffer}
 use Rattle.mm_stated.specs.Mandatory.{variables_of}
 use Rattle.mm_subst.specs.declared.symbol.WSym.TheVariants.{Var}
@@ -78,6 +78,6 @@ returns-clause-matches c =
     let k = terms bytes c.args.prover.now.search in
     c.loop-theta.invariant.matches
     ∙ ap (λ xs. filter (are_apart k id) (map (sigma_by bytes id) xs))
-      (take_all c.loop-theta.theta-index c.deref-theta-items.result.now c.loop-theta-test.false ∙ c.deref-theta-items.ensures.value ∙ c.in_ok-listing.ensures.found
-      ∙ ap (λ (p : Prover). (answer (forbidden bytes p.search.rule) None c.args.goal.now c.in_ok-pattern.pattern).found) c.prover.view_is
-      ∙ ap (λ p. (answer (forbidden bytes c.args.prover.now.search.rule) None c.args.goal.now p).found) c.in_ok-pattern.ensures)
+    (take_all c.loop-theta.theta-index c.deref-theta-items.result.now c.loop-theta-test.false ∙ c.deref-theta-items.ensures.value ∙ c.in_ok-listing.ensures.found
+    ∙ ap (λ (p : Prover). (answer (forbidden bytes p.search.rule) None c.args.goal.now c.in_ok-pattern.pattern).found) c.prover.view_is
+    ∙ ap (λ p. (answer (forbidden bytes c.args.prover.now.search.rule) None c.args.goal.now p).found) c.in_ok-pattern.ensures)

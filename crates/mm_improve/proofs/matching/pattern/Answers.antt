@@ -3,7 +3,6 @@ use Rattle.mm_subst.specs.Applied.{IsApplied, most_symbols}
 use Rattle.mm_subst.specs.Substitutions.{Pairs, applied}
 use Rattle.mm_subst.specs.declared.symbol.WSym.{WSym}
 use Rattle.mm_subst.specs.declared.fault.TooLongOrMemory.{TooLongOrMemory}
-use Rattle.mm_subst.specs.Statements.{statement_of}
 use Rattle.mm_improve.proofs.FoundValues.{pattern_short}
 use Rattle.mm_improve.proofs.matching.pattern.Goals as goal
 
