@@ -13,12 +13,13 @@ use Rattle.mm_unify.proofs.Sorted.{Among, among_mapped}
 use Rattle.mm_plain.specs.declared.plain.Plain.{Plain}
 use Rattle.mm_plain.specs.Premises.{premises_of, variables_for}
 use Rattle.mm_plain.specs.Shape.{known}
-use Rattle.mm_improve.specs.declared.grammar.Item.{Item}
-use Rattle.mm_improve.specs.declared.grammar.Item.TheVariants.{Fixed, Again, New}
-use Rattle.mm_improve.specs.Options.{or_else, on, first}
-use Rattle.mm_improve.specs.Assertions.{Terms, are_parted, parts, plain_assertions}
+use Rattle.mm_chart.specs.declared.grammar.Item.{Item}
+use Rattle.mm_chart.specs.declared.grammar.Item.TheVariants.{Fixed, Again, New}
+use Rattle.mm_chart.specs.Options.{or_else, on, first}
+use Rattle.mm_improve.specs.Assertions.{Terms, parts, plain_assertions}
+use Rattle.mm_chart.specs.Items.{are_parted}
 use Rattle.mm_improve.specs.Ranks as ranks
-use Rattle.mm_improve.specs.Items.{Assertion, Chosen, Goal, Grammar, Hypothesis, IsAnswer, Use, by_hypothesis, by_use, chosen, fits, hypothesis, limited, matches, same_goal, serves, uses, uses_of, value}
+use Rattle.mm_chart.specs.Items.{Assertion, Chosen, Goal, Grammar, Hypothesis, IsAnswer, Use, by_hypothesis, by_use, chosen, fits, hypothesis, limited, matches, same_goal, serves, uses, uses_of, value}
 use Rattle.mm_improve.specs.Choices.{bare_id, has_no_items, is_bare}
 use Rattle.mm_improve.specs.Grammars.{assertion_of, chosen_by, codes_for, grammar_of, item_of, items_of, order_for, place, place_or_none, seen_in, sigma_of, split, variable_item, with_variable}
 use Rattle.mm_improve.specs.Proving.{chosen_tree, rank_limit}
@@ -26,7 +27,7 @@ use Rattle.mm_improve.proofs.Agreeing.{VariablesDiffer, answers_agree, are_plain
 use Rattle.mm_improve.proofs.Forms.{IsPlainAssertion, typed}
 use Rattle.mm_improve.proofs.Limited.{link, ranks_are_limited}
 use Rattle.mm_improve.proofs.Limits.{first_among}
-use Rattle.mm_improve.proofs.Ranks.{chosen-zero, chosen-suc}
+use Rattle.mm_chart.proofs.Ranks.{chosen-zero, chosen-suc}
 use Rattle.mm_improve.proofs.Unfolding.{no_parts, unfolds}
 
 -- ## The matches with an empty string

@@ -20,14 +20,14 @@ use Rattle.mm_plain.proofs.Equations.{length-steps_of, size_of-known}
 use Rattle.mm_tree.specs.declared.plan.Plan.{Plan}
 use Rattle.mm_improve.specs.declared.fault.ImproveFault.{ImproveFault}
 use Rattle.mm_improve.specs.declared.fault.ImproveFault.TheVariants.{TooManySteps, TooDeep, Memory}
-use Rattle.mm_improve.specs.declared.grammar.Item.{Item}
-use Rattle.mm_improve.specs.declared.table.Part.{Part}
+use Rattle.mm_chart.specs.declared.grammar.Item.{Item}
+use Rattle.mm_chart.specs.declared.table.Part.{Part}
 use Rattle.mm_improve.specs.Laying.{IsCounted, IsLaid, LaysFound, LaysTree}
-use Rattle.mm_improve.specs.Options.{is_there, on, first, or_else}
+use Rattle.mm_chart.specs.Options.{is_there, on, first, or_else}
 use Rattle.mm_improve.specs.Assertions.{Terms}
 use Rattle.mm_improve.specs.Ranks as ranks
-use Rattle.mm_improve.specs.Items.{Assertion, Chosen, Grammar, IsAnswer, may_lead, part_codes, same_string}
-use Rattle.mm_improve.specs.Charts.{Noted, Rows, AreAnswersFor, ArePlaced, entry_at, meaning}
+use Rattle.mm_chart.specs.Items.{Assertion, Chosen, Grammar, IsAnswer, may_lead, part_codes, same_string}
+use Rattle.mm_chart.specs.Charts.{Noted, Rows, AreAnswersFor, ArePlaced, entry_at, meaning}
 use Rattle.mm_improve.specs.Choices.{IsCharted, bare_hypothesis, bare_id, is_bare, has_no_items}
 use Rattle.mm_improve.specs.Grammars.{chosen_by, grammar_of}
 use Rattle.mm_improve.specs.Narrow.{narrowed}

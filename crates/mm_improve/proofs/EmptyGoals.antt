@@ -13,7 +13,7 @@ use Rattle.mm_unify.specs.Listings.{answer}
 use Rattle.mm_unify.proofs.Listed.{lists_matches}
 use Rattle.mm_unify.proofs.Sorted.{Among}
 use Rattle.mm_plain.specs.Lengths.{is_long}
-use Rattle.mm_improve.specs.Options.{or_else, on, first}
+use Rattle.mm_chart.specs.Options.{or_else, on, first}
 use Rattle.mm_improve.specs.Assertions.{Terms, are_apart, matches, plain_assertions, sigma_by}
 use Rattle.mm_improve.specs.Ranks.{Use, Chosen, at_rank, hypothesis, uses, serves, unless_long, chosen, tree}
 use Rattle.mm_improve.specs.Proving.{chosen_tree, rank_limit}

@@ -18,7 +18,7 @@ use Rattle.mm_tree.specs.declared.plan.PlanStep.{PlanStep}
 use Rattle.mm_improve.specs.Assertions.{Terms}
 use Rattle.mm_improve.specs.Finding.{AreLaid, LaysTrees, kids_at, or_none, premise_proofs, serves_at}
 use Rattle.mm_improve.specs.Laying.{IsCounted, IsLaid, LaysFound, LaysTree, steps_in}
-use Rattle.mm_improve.specs.Options.{all_there, is_there, on}
+use Rattle.mm_chart.specs.Options.{all_there, is_there, on}
 use Rattle.mm_improve.specs.Proving.{premise_proof, proof_by, proof_of}
 use Rattle.mm_improve.specs.Ranks.{Use}
 use Rattle.mm_improve.specs.declared.fault.ImproveFault.{ImproveFault}

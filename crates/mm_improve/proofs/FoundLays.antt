@@ -7,7 +7,7 @@ use Rattle.mm_plain.specs.Lengths.{is_long}
 use Rattle.mm_tree.specs.declared.plan.Plan.{Plan}
 use Rattle.mm_improve.specs.Assertions.{Terms}
 use Rattle.mm_improve.specs.Laying.{IsCounted, LaysFound}
-use Rattle.mm_improve.specs.Options.{is_there}
+use Rattle.mm_chart.specs.Options.{is_there}
 use Rattle.mm_improve.specs.Proving.{chosen_tree, proof_of}
 use Rattle.mm_improve.specs.declared.fault.ImproveFault.{ImproveFault}
 use Rattle.mm_improve.specs.declared.fault.ImproveFault.TheVariants.{TooManySteps, TooDeep, Memory}

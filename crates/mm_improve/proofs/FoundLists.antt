@@ -4,8 +4,8 @@ use Rattle.std.specs.List.{AllByRecursion, list_all, range_with_len}
 use Rattle.std.proofs.lemmas.Bool.{cases_lt}
 use Rattle.std.proofs.lemmas.List.{take_more, map-append, take_all}
 use Rattle.std.proofs.lemmas.List.Elements.{filter-append}
-use Rattle.mm_improve.specs.Options.{or_else, on, first, is_there}
-use Rattle.mm_improve.proofs.Firsts.{first-append}
+use Rattle.mm_chart.specs.Options.{or_else, on, first, is_there}
+use Rattle.mm_chart.proofs.Firsts.{first-append}
 use Rattle.mm_improve.proofs.Sifting.{first_more}
 
 -- ## What is kept

@@ -16,7 +16,7 @@ use Rattle.mm_plain.specs.Shape.{known}
 use Rattle.mm_plain.specs.Valid.{IsString, first_setting}
 use Rattle.mm_improve.specs.Assertions.{Terms}
 use Rattle.mm_improve.specs.Finding.{premise_proofs, serves_at, or_none, kids_at}
-use Rattle.mm_improve.specs.Options.{is_there, or_else, on, first, first_there, all_there}
+use Rattle.mm_chart.specs.Options.{is_there, or_else, on, first, first_there, all_there}
 use Rattle.mm_improve.specs.Proving.{chosen_tree, essential_uses, premise_proof, proof_by, proof_of, rank_limit}
 use Rattle.mm_improve.specs.Ranks.{Use, Chosen, at_rank, chosen, hypothesis, serves, tree, unless_long, uses}
 

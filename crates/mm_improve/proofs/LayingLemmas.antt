@@ -14,7 +14,7 @@ use Rattle.mm_tree.specs.Plans.{IsPlan, grove_of}
 use Rattle.mm_tree.specs.declared.plan.Plan.{Plan}
 use Rattle.mm_improve.specs.declared.fault.ImproveFault.{ImproveFault}
 use Rattle.mm_improve.specs.declared.fault.ImproveFault.TheVariants.{TooManySteps, TooDeep, Memory}
-use Rattle.mm_improve.specs.declared.table.Part.{Part}
+use Rattle.mm_chart.specs.declared.table.Part.{Part}
 use Rattle.mm_improve.specs.Laying.{IsLaid, LaysTree, steps_in}
 use Rattle.mm_improve.specs.Steps.{IsPushed, Pushes}
 

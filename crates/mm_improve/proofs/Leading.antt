@@ -7,9 +7,9 @@ use Rattle.mm_subst.specs.Symbols.{is_same}
 use Rattle.mm_subst.proofs.Keys.{is_same-itself}
 use Rattle.mm_unify.specs.Matching.{behind, onward}
 use Rattle.mm_unify.proofs.Sorted.{Among, among_left, among_mapped, among_right, among_some_length}
-use Rattle.mm_improve.specs.declared.grammar.Item.{Item}
-use Rattle.mm_improve.specs.declared.grammar.Item.TheVariants.{Fixed, Again, New}
-use Rattle.mm_improve.specs.Items.{Goal, Grammar, Assertion, Use, fits, matches, may_lead, new_codes, no_goal, part_codes, uses, uses_of, value}
+use Rattle.mm_chart.specs.declared.grammar.Item.{Item}
+use Rattle.mm_chart.specs.declared.grammar.Item.TheVariants.{Fixed, Again, New}
+use Rattle.mm_chart.specs.Items.{Goal, Grammar, Assertion, Use, fits, matches, may_lead, new_codes, no_goal, part_codes, uses, uses_of, value}
 use Rattle.mm_improve.proofs.Ranking.{among_flat}
 
 -- the typecodes are some of these

@@ -1,15 +1,3 @@
-pub mod Symbols
-pub mod Firsts
-pub mod Ranks
-pub mod Settling
-pub mod Parts
-pub mod Nexts
-pub mod Walks
-pub mod Uses
-pub mod Waiting
-pub mod Stated
-pub mod Idle
-pub mod Parting
 pub mod Translating
 pub mod Covering
 pub mod Linking

@@ -21,12 +21,13 @@ use Rattle.mm_unify.proofs.Matched.{AreNamed, made}
 use Rattle.mm_unify.proofs.Listed.{lists_matches, restricted_value}
 use Rattle.mm_plain.specs.Drawing.{fresh_from}
 use Rattle.mm_plain.specs.Premises.{variables_for}
-use Rattle.mm_improve.specs.Options.{on}
+use Rattle.mm_chart.specs.Options.{on}
 use Rattle.mm_improve.specs.Assertions as assertions
-use Rattle.mm_improve.specs.Assertions.{Terms, sigma_by, are_apart, are_parted}
+use Rattle.mm_improve.specs.Assertions.{Terms, sigma_by, are_apart}
+use Rattle.mm_chart.specs.Items.{are_parted}
 use Rattle.mm_improve.specs.Ranks as ranks
-use Rattle.mm_improve.specs.Items as items
-use Rattle.mm_improve.specs.Items.{Goal, Use, value}
+use Rattle.mm_chart.specs.Items as items
+use Rattle.mm_chart.specs.Items.{Goal, Use, value}
 use Rattle.mm_improve.specs.Grammars.{split, place, place_or_none, items_of, seen_in, codes_for, order_for, assertion_of, grammar_of, sigma_of, use_by}
 use Rattle.mm_improve.proofs.Forms.{IsPlainAssertion}
 use Rattle.mm_improve.proofs.Translating.{AreSeen, goals, seen-value, same-matches, filtered, fresh-constant}

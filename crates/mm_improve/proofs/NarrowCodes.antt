@@ -10,12 +10,12 @@ use Rattle.mm_subst.specs.Statements.{statement_of}
 use Rattle.mm_unify.specs.Parts.{part}
 use Rattle.mm_unify.proofs.Sorted.{Among, among_all, among_at, among_mapped}
 use Rattle.mm_plain.specs.Premises.{premises_of, variables_for}
-use Rattle.mm_improve.specs.declared.grammar.Item.{Item}
-use Rattle.mm_improve.specs.declared.grammar.Item.TheVariants.{Fixed, Again, New}
+use Rattle.mm_chart.specs.declared.grammar.Item.{Item}
+use Rattle.mm_chart.specs.declared.grammar.Item.TheVariants.{Fixed, Again, New}
 use Rattle.mm_improve.specs.Assertions.{Terms, has_essential, plain_assertions}
-use Rattle.mm_improve.specs.Items.{Assertion, Grammar, new_codes, part_codes}
+use Rattle.mm_chart.specs.Items.{Assertion, Grammar, new_codes, part_codes}
 use Rattle.mm_improve.specs.Grammars.{assertion_of, codes_for, grammar_of, item_of, items_of, place, seen_with, split, variable_item}
-use Rattle.mm_improve.specs.Charts.{Rows, AreAnswers, AreAnswersFor}
+use Rattle.mm_chart.specs.Charts.{Rows, AreAnswers, AreAnswersFor}
 use Rattle.mm_improve.specs.Narrow.{IsEnough, is_float_code, is_taken, narrowed}
 use Rattle.mm_improve.proofs.Agreeing.{plain_usable}
 use Rattle.mm_improve.proofs.Narrowing.{is_enough}

@@ -6,12 +6,12 @@ use Rattle.mm_subst.specs.declared.symbol.WSym.{WSym}
 use Rattle.mm_subst.specs.Symbols.{is_same}
 use Rattle.mm_subst.proofs.Keys.{is_same-true}
 use Rattle.mm_unify.proofs.Sorted.{Among}
-use Rattle.mm_improve.specs.Options.{is_there, or_else, on, first}
-use Rattle.mm_improve.specs.Items.{Goal, Grammar, Assertion, Use, Chosen, by_use, chosen, fits, may_lead, matches, part_codes, serves, uses, uses_of}
+use Rattle.mm_chart.specs.Options.{is_there, or_else, on, first}
+use Rattle.mm_chart.specs.Items.{Goal, Grammar, Assertion, Use, Chosen, by_use, chosen, fits, may_lead, matches, part_codes, serves, uses, uses_of}
 use Rattle.mm_improve.specs.Narrow.{IsEnough, narrowed}
 use Rattle.mm_improve.proofs.Leading.{AreOf, used}
 use Rattle.mm_improve.proofs.Ranking.{among_flat}
-use Rattle.mm_improve.proofs.Ranks.{chosen-zero, chosen-suc}
+use Rattle.mm_chart.proofs.Ranks.{chosen-zero, chosen-suc}
 
 first_same : {X : Type 0} (p q : X → Bool) (xs : List X) → ((x : X) → Among x xs → p x ≡ q x) → first p xs ≡ first q xs
 first_same p q [] h = refl

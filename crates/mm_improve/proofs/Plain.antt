@@ -17,7 +17,7 @@ use Rattle.mm_plain.specs.Premises.{premise_ids, premises_of, variables_for}
 use Rattle.mm_plain.proofs.Forms.{counted, formed, no_other}
 use Rattle.mm_sound.proofs.Mandatory.{mandatory_hypotheses}
 use Rattle.mm_sound.proofs.Paired.{pairs_among_keys}
-use Rattle.mm_improve.specs.Options.{on}
+use Rattle.mm_chart.specs.Options.{on}
 use Rattle.mm_improve.specs.Assertions.{has_essential, are_concluded}
 use Rattle.mm_improve.specs.Grammars.{split, place, with_variable, seen_with, seen_in, codes_for}
 use Rattle.mm_improve.proofs.Forms.{typed, IsPlainAssertion}

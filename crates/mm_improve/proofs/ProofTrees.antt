@@ -24,7 +24,7 @@ use Rattle.mm_plain.proofs.Bounds.{applied-known}
 use Rattle.mm_plain.proofs.Forms.{string_of_statement}
 use Rattle.mm_sound.specs.Apart.{AreParted}
 use Rattle.mm_sound.proofs.Paired.{is_key, pairs_among_keys}
-use Rattle.mm_improve.specs.Options.{is_there, or_else, on, first, first_there, all_there}
+use Rattle.mm_chart.specs.Options.{is_there, or_else, on, first, first_there, all_there}
 use Rattle.mm_improve.specs.Assertions.{Terms, may_be_used, has_essential, plain_assertions, matches, parts}
 use Rattle.mm_improve.specs.Ranks.{Use, Chosen, at_rank, uses, serves, chosen, tree}
 use Rattle.mm_improve.specs.Proving.{rank_limit, chosen_tree, essential_assertions, essential_uses, premise_proof, proof_by, proof_of}
@@ -33,7 +33,7 @@ use Rattle.mm_improve.proofs.ActiveKinds.{active_are_hypotheses}
 use Rattle.mm_improve.proofs.Agreeing.{IsUsable, VariablesDiffer, usable, plain_usable}
 use Rattle.mm_improve.proofs.ProofSteps.{IsProof, step_proves}
 use Rattle.mm_improve.proofs.ProofUses.{IsUse, match_is_use}
-use Rattle.mm_improve.proofs.Symbols.{same_strings}
+use Rattle.mm_chart.proofs.Symbols.{same_strings}
 use Rattle.mm_improve.proofs.Unfolding.{all_weaker, at-zero, at-suc, short_of, is_short, some_there, no_parts, served, tree-at-zero, tree-at-suc}
 
 -- ## Lists

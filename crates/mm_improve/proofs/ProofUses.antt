@@ -31,7 +31,8 @@ use Rattle.mm_plain.proofs.Forms.{formed, no_other}
 use Rattle.mm_plain.proofs.Fresh.{keys-fresh}
 use Rattle.mm_plain.proofs.Works.{applied-plain, statement-with_values}
 use Rattle.mm_sound.specs.Apart.{variables_in, AreParted}
-use Rattle.mm_improve.specs.Assertions.{Terms, if_variable, are_parted, are_apart, pattern, sigma_by, matches}
+use Rattle.mm_improve.specs.Assertions.{Terms, are_apart, pattern, sigma_by, matches}
+use Rattle.mm_chart.specs.Items.{if_variable, are_parted}
 use Rattle.mm_improve.specs.Ranks.{Use}
 use Rattle.mm_improve.proofs.Agreeing.{IsUsable, VariablesDiffer}
 use Rattle.mm_improve.proofs.Unfolding.{all_true, all_weaker}

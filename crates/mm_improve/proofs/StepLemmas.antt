@@ -15,10 +15,10 @@ use Rattle.mm_unify.specs.Parts.{part}
 use Rattle.mm_plain.specs.Premises.{variables_for}
 use Rattle.mm_plain.specs.Shape.{known}
 use Rattle.mm_tree.proofs.FreshVariables.{variables-differ}
-use Rattle.mm_improve.specs.declared.table.Part.{Part}
+use Rattle.mm_chart.specs.declared.table.Part.{Part}
 use Rattle.mm_improve.specs.Assertions.{Terms}
-use Rattle.mm_improve.specs.Items.{Goal, value}
-use Rattle.mm_improve.specs.Charts.{Noted, Rows, meaning, entry_at, goals_of, AreAnswersFor, ArePlaced}
+use Rattle.mm_chart.specs.Items.{Goal, value}
+use Rattle.mm_chart.specs.Charts.{Noted, Rows, meaning, entry_at, goals_of, AreAnswersFor, ArePlaced}
 use Rattle.mm_improve.specs.Grammars.{place, place_or_none, order_for, grammar_of, sigma_of, chosen_by}
 use Rattle.mm_improve.specs.Steps.{IsStep, values_by}
 use Rattle.mm_improve.specs.Traces.{string_of, tree_at, IsRanked, keys_of, kids_of, no_part}

@@ -11,12 +11,12 @@ use Rattle.mm_unify.specs.Parts.{part}
 use Rattle.mm_unify.proofs.Sorted.{Among, among_mapped}
 use Rattle.mm_plain.specs.Premises.{variables_for}
 use Rattle.mm_plain.specs.Shape.{known}
-use Rattle.mm_improve.specs.declared.table.Part.{Part}
-use Rattle.mm_improve.specs.Options.{is_there, on}
+use Rattle.mm_chart.specs.declared.table.Part.{Part}
+use Rattle.mm_chart.specs.Options.{is_there, on}
 use Rattle.mm_improve.specs.Assertions.{Terms, plain_assertions, parts}
 use Rattle.mm_improve.specs.Ranks as ranks
-use Rattle.mm_improve.specs.Items.{Goal, Grammar, Assertion, Use, Chosen, chosen, limited, matches, fits, uses, uses_of, may_lead, no_goal}
-use Rattle.mm_improve.specs.Charts.{Noted, Rows, meaning, entry_at, goal_of, goals_of, AreAnswersFor, ArePlaced}
+use Rattle.mm_chart.specs.Items.{Goal, Grammar, Assertion, Use, Chosen, chosen, limited, matches, fits, uses, uses_of, may_lead, no_goal}
+use Rattle.mm_chart.specs.Charts.{Noted, Rows, meaning, entry_at, goal_of, goals_of, AreAnswersFor, ArePlaced}
 use Rattle.mm_improve.specs.Grammars.{joined, place, place_or_none, order_for, assertion_of, grammar_of, sigma_of, chosen_by}
 use Rattle.mm_improve.specs.Traces.{string_of, tree_at, IsRanked, IsOver, kids_of, no_part}
 use Rattle.mm_improve.proofs.Agreeing.{VariablesDiffer, plain_usable, are_plain, are_stated}

@@ -8,7 +8,7 @@ use Rattle.mm_subst.specs.declared.symbol.WSym.{WSym}
 use Rattle.mm_plain.specs.declared.plain.Plain.{Plain}
 use Rattle.mm_plain.specs.Shape.{known, steps_of, size_of}
 use Rattle.mm_plain.proofs.Equations.{steps_of-known, length-steps_of, size_of-pos, flat_map-map}
-use Rattle.mm_improve.specs.declared.table.Part.{Part}
+use Rattle.mm_chart.specs.declared.table.Part.{Part}
 use Rattle.mm_improve.specs.Assertions.{Terms}
 use Rattle.mm_improve.specs.Traces.{string_of, tree_at, IsRanked, IsOver}
 

@@ -12,7 +12,7 @@ use Rattle.mm_subst.specs.Symbols.{is_same}
 use Rattle.mm_plain.specs.Lengths.{is_long}
 use Rattle.mm_plain.specs.Premises.{premises_of}
 use Rattle.mm_plain.specs.Shape.{known, unknown}
-use Rattle.mm_improve.specs.Options.{is_there, or_else, on, first}
+use Rattle.mm_chart.specs.Options.{is_there, or_else, on, first}
 use Rattle.mm_improve.specs.Assertions.{Terms, parts}
 use Rattle.mm_improve.specs.Ranks.{Use, Chosen, at_rank, hypothesis, uses, serves, unless_long, chosen, grown, tree}
 use Rattle.mm_improve.proofs.ActiveKinds.{active_are_hypotheses}

@@ -5,11 +5,11 @@ use Rattle.mm_subst.specs.Symbols.{is_same}
 use Rattle.mm_plain.specs.Shape.{known}
 use Rattle.mm_improve.specs.declared.choice.Choice.{Choice}
 use Rattle.mm_improve.specs.declared.choice.Choice.TheVariants.{Nothing, Bare, Charted}
-use Rattle.mm_improve.specs.declared.grammar.Item.{Item}
-use Rattle.mm_improve.specs.Options.{or_else, on, first}
+use Rattle.mm_chart.specs.declared.grammar.Item.{Item}
+use Rattle.mm_chart.specs.Options.{or_else, on, first}
 use Rattle.mm_improve.specs.Assertions.{Terms}
-use Rattle.mm_improve.specs.Items.{Assertion, Grammar, Hypothesis, same_goal}
-use Rattle.mm_improve.specs.Charts.{Rows, AreAnswersFor, ArePlaced}
+use Rattle.mm_chart.specs.Items.{Assertion, Grammar, Hypothesis, same_goal}
+use Rattle.mm_chart.specs.Charts.{Rows, AreAnswersFor, ArePlaced}
 use Rattle.mm_improve.specs.Grammars.{grammar_of}
 use Rattle.mm_improve.specs.Proving.{chosen_tree, rank_limit}
 use Rattle.mm_improve.specs.Traces.{IsRanked, tree_at, whole}

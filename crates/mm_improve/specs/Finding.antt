@@ -12,7 +12,7 @@ use Rattle.mm_tree.specs.Plans.{IsPlan, grove_of}
 use Rattle.mm_tree.specs.declared.plan.Plan.{Plan}
 use Rattle.mm_improve.specs.Assertions.{Terms, may_be_used, has_essential}
 use Rattle.mm_improve.specs.Laying.{steps_in}
-use Rattle.mm_improve.specs.Options.{is_there, all_there}
+use Rattle.mm_chart.specs.Options.{is_there, all_there}
 use Rattle.mm_improve.specs.Proving.{premise_proof, proof_of}
 use Rattle.mm_improve.specs.Ranks.{Use}
 use Rattle.mm_improve.specs.declared.fault.ImproveFault.{ImproveFault}

@@ -3,7 +3,7 @@ use Rattle.std.specs.Prelude.{ℕ, ◌≡◌, Bool, true, false, not, ◌||◌, 
 use Rattle.mm_scope.specs.Contents.{is_typecode_of}
 use Rattle.mm_subst.specs.declared.symbol.WSym.{WSym}
 use Rattle.mm_subst.specs.declared.symbol.WSym.TheVariants.{Const, Var, Work}
-use Rattle.mm_improve.specs.Items.{Goal, Grammar, chosen, may_lead}
+use Rattle.mm_chart.specs.Items.{Goal, Grammar, chosen, may_lead}
 
 -- whether a symbol is the typecode of some `$f`
 abbrev pub is_float_code : List ℕ → WSym → Bool

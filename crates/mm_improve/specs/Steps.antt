@@ -12,7 +12,7 @@ use Rattle.mm_tree.specs.Plans.{IsPlan, grove_of}
 use Rattle.mm_tree.specs.declared.plan.Plan.{Plan}
 use Rattle.mm_improve.specs.declared.fault.ImproveFault.{ImproveFault}
 use Rattle.mm_improve.specs.declared.fault.ImproveFault.TheVariants.{TooManySteps, TooDeep, Memory}
-use Rattle.mm_improve.specs.declared.table.Part.{Part}
+use Rattle.mm_chart.specs.declared.table.Part.{Part}
 use Rattle.mm_improve.specs.Assertions.{Terms}
 use Rattle.mm_improve.specs.Laying.{steps_in}
 use Rattle.mm_improve.specs.Traces.{IsRanked, string_of, tree_at}

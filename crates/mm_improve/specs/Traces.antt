@@ -12,12 +12,12 @@ use Rattle.mm_plain.specs.Shape.{known, steps_of, size_of}
 use Rattle.mm_plain.specs.Valid.{most_steps}
 use Rattle.mm_improve.specs.declared.fault.ImproveFault.{ImproveFault}
 use Rattle.mm_improve.specs.declared.fault.ImproveFault.TheVariants.{TooManySteps, TooDeep, Memory}
-use Rattle.mm_improve.specs.declared.table.Part.{Part}
-use Rattle.mm_improve.specs.Options.{is_there}
+use Rattle.mm_chart.specs.declared.table.Part.{Part}
+use Rattle.mm_chart.specs.Options.{is_there}
 use Rattle.mm_improve.specs.Assertions.{Terms}
 use Rattle.mm_improve.specs.Ranks.{chosen, tree}
-use Rattle.mm_improve.specs.Charts.{Noted, goal_of}
-use Rattle.mm_improve.specs.Items.{may_lead}
+use Rattle.mm_chart.specs.Charts.{Noted, goal_of}
+use Rattle.mm_chart.specs.Items.{may_lead}
 use Rattle.mm_improve.specs.Grammars.{grammar_of, joined, order_for, place, place_or_none}
 
 -- the string of a part, behind its typecode

@@ -9,9 +9,8 @@ ghost use Rattle.mm_improve.specs.Proving.{chosen_tree};
 ghost use Rattle.mm_improve.specs.Searches.{terms};
 
 use crate::database::{is_float_code, rules};
-use crate::grammar::{Hypothesis, Pattern, Rules};
 use crate::prover::Prover;
-use crate::table::Rows;
+use mm_chart::{Hypothesis, Pattern, Rows, Rules};
 use mm_scope::{Database, mandatory_variables_differ};
 use mm_subst::{Memory, WSym};
 use std::alloc::Global;

@@ -13,7 +13,7 @@ ghost use Rattle.mm_improve.specs.Narrow.{is_float_code, is_taken, narrowed};
 ghost use Rattle.mm_improve.specs.Searches.{terms};
 
 use crate::conclusion::{apart_of, itemized};
-use crate::grammar::{Hypothesis, Pattern, Rules};
+use mm_chart::{Hypothesis, Pattern, Rules};
 use mm_plain::variables_for;
 use mm_scope::{Database, Kind, StmtId, Sym};
 use mm_subst::{Brackets, Memory, WSym, own_symbol, statement};

@@ -9,7 +9,7 @@ ghost use Rattle.mm_plain.specs.Valid.{IsString, first_setting};
 ghost use Rattle.mm_improve.specs.Assertions.{matches};
 ghost use Rattle.mm_improve.specs.Finding.{HasStrings, IsOwnUse, may_serve, serves_at};
 ghost use Rattle.mm_improve.specs.Laying.{IsReady};
-ghost use Rattle.mm_improve.specs.Options.{first, is_there};
+ghost use Rattle.mm_chart.specs.Options.{first, is_there};
 ghost use Rattle.mm_improve.specs.Proving.{essential_uses, premise_proof, proof_of};
 ghost use Rattle.mm_improve.specs.Searches.{terms};
 

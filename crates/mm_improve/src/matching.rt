@@ -8,13 +8,14 @@ ghost use Rattle.mm_subst.specs.Substitutions.{value_of, with_values};
 ghost use Rattle.mm_subst.specs.declared.symbol.WSym.TheVariants.{Var};
 ghost use Rattle.mm_plain.specs.Drawing.{fresh_for};
 ghost use Rattle.mm_plain.specs.Valid.{IsString, first_setting};
-ghost use Rattle.mm_improve.specs.Assertions.{are_parted, matches, may_be_used, pattern};
+ghost use Rattle.mm_improve.specs.Assertions.{matches, may_be_used, pattern};
+ghost use Rattle.mm_chart.specs.Items.{are_parted};
 ghost use Rattle.mm_improve.specs.Finding.{HasStrings};
 ghost use Rattle.mm_improve.specs.Laying.{IsReady};
 ghost use Rattle.mm_improve.specs.Searches.{terms};
 
-use crate::fitting::are_parted;
 use crate::prover::Prover;
+use mm_chart::are_parted;
 use mm_plain::variables_for;
 use mm_scope::{Database, StmtId, mandatory_variables_differ};
 use mm_subst::{Memory, Subst, TooLongOrMemory, WStr, WSym, apply, apply_to_values, statement};

@@ -3,15 +3,13 @@
 ghost use Rattle.std.specs.Prelude.{◌≡◌, ◌<◌, false, IfOk, OnOk, length};
 ghost use Rattle.mm_scope.specs.Contents.{labels_of, stated_at};
 ghost use Rattle.mm_stated.specs.Stated.{is_hypothesis};
-ghost use Rattle.mm_improve.specs.Charts.{AreAnswersFor, ArePlaced};
+ghost use Rattle.mm_chart.specs.Charts.{AreAnswersFor, ArePlaced};
 ghost use Rattle.mm_improve.specs.Grammars.{grammar_of};
 ghost use Rattle.mm_improve.specs.Laying.{IsReady};
 ghost use Rattle.mm_improve.specs.Searches.{terms};
 
 use crate::database::{Search, is_float_code, rules, rules_for};
-use crate::filling::chart;
-use crate::grammar::Rules;
-use crate::table::Rows;
+use mm_chart::{Rows, Rules, chart};
 use mm_scope::Database;
 use mm_subst::{Memory, WSym};
 use std::alloc::Global;

@@ -4,9 +4,9 @@ ghost use Rattle.std.specs.Prelude.{◌≡◌, ◌<◌, ◌≤◌, ◌++◌, ◌
 ghost use Rattle.mm_scope.specs.Contents.{labels_of};
 ghost use Rattle.mm_plain.specs.Premises.{variables_for};
 ghost use Rattle.mm_plain.specs.Valid.{most_steps};
-ghost use Rattle.mm_improve.specs.Charts.{AreAnswersFor, ArePlaced};
+ghost use Rattle.mm_chart.specs.Charts.{AreAnswersFor, ArePlaced};
 ghost use Rattle.mm_improve.specs.Grammars.{grammar_of, order_for, place, place_or_none};
-ghost use Rattle.mm_improve.specs.Items.{may_lead};
+ghost use Rattle.mm_chart.specs.Items.{may_lead};
 ghost use Rattle.mm_improve.specs.Proving.{rank_limit};
 ghost use Rattle.mm_improve.specs.Searches.{terms};
 ghost use Rattle.mm_improve.specs.Traces.{IsOver, IsRanked, IsTraced, keys_of, kids_of, no_part, whole};
@@ -14,7 +14,7 @@ ghost use Rattle.mm_improve.specs.Traces.{IsOver, IsRanked, IsTraced, keys_of, k
 use crate::conclusion::{itemized, place_or_none};
 use crate::database::{Search, text_of};
 use crate::fault::ImproveFault;
-use crate::table::{Entry, Part, Rows};
+use mm_chart::{Entry, Part, Rows};
 use mm_plain::variables_for;
 use mm_scope::{Database, StmtId, mandatory_variables_differ};
 use mm_subst::{Memory, WSym};
@@ -127,7 +127,7 @@ pub struct Trace {
 
 impl Model for Trace {
     ghost use Rattle.std.specs.Prelude.{List};
-    ghost use Rattle.mm_improve.specs.declared.table.Part.{Part};
+    ghost use Rattle.mm_chart.specs.declared.table.Part.{Part};
 
     ghost Value = { List Part };
 

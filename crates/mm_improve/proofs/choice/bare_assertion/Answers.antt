@@ -2,11 +2,11 @@ use Rattle.std.proofs.Common.{◌≡◌, ◌<◌, Some, true, false, length, sym
 use Rattle.std.proofs.lemmas.Bool.{and_from, and_left, and_right}
 use Rattle.mm_subst.specs.Symbols.{is_same}
 use Rattle.mm_improve.specs.Choices.{has_no_items, is_bare}
-use Rattle.mm_improve.specs.Items.{Assertion}
-use Rattle.mm_improve.specs.Options.{on}
+use Rattle.mm_chart.specs.Items.{Assertion}
+use Rattle.mm_chart.specs.Options.{on}
 use Rattle.mm_improve.proofs.ChoiceLemmas.{no_items, some_items}
-use Rattle.mm_improve.proofs.Firsts.{first_more}
-use Rattle.mm_improve.proofs.Stated.{first_here}
+use Rattle.mm_chart.proofs.Firsts.{first_more}
+use Rattle.mm_chart.proofs.Stated.{first_here}
 use Rattle.mm_improve.proofs.choice.bare_assertion.Goals as goal
 use Rattle.mm_improve.proofs.choice.bare_assertion.Goals.{else-is_same-via-then-is_same+else-is_empty, else-is_same-via-else-is_same}
 

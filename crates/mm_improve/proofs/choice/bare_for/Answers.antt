@@ -1,7 +1,7 @@
 use Rattle.std.proofs.Common.{true, sym, ◌∙◌, ap}
 use Rattle.mm_improve.specs.Choices.{bare_id}
 use Rattle.mm_improve.specs.Grammars.{grammar_of}
-use Rattle.mm_improve.specs.Items.{Grammar}
+use Rattle.mm_chart.specs.Items.{Grammar}
 use Rattle.mm_improve.specs.Narrow.{is_taken}
 use Rattle.mm_improve.specs.Searches.{terms}
 use Rattle.mm_improve.proofs.ChoiceLemmas.{bare_kept}

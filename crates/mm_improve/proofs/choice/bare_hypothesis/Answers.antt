@@ -1,11 +1,11 @@
 use Rattle.std.proofs.Common.{◌≡◌, ◌<◌, [], Bool, Some, true, false, length, sym, ◌∙◌, ap, arith, get_or}
 use Rattle.std.proofs.lemmas.Bool.{and_from, and_left, and_right}
 use Rattle.mm_subst.specs.Symbols.{is_same}
-use Rattle.mm_improve.specs.Items.{Hypothesis, same_goal, same_string}
-use Rattle.mm_improve.specs.Options.{on}
+use Rattle.mm_chart.specs.Items.{Hypothesis, same_goal, same_string}
+use Rattle.mm_chart.specs.Options.{on}
 use Rattle.mm_improve.proofs.ChoiceLemmas.{no_symbols, some_symbols}
-use Rattle.mm_improve.proofs.Firsts.{first_more}
-use Rattle.mm_improve.proofs.Stated.{first_here}
+use Rattle.mm_chart.proofs.Firsts.{first_more}
+use Rattle.mm_chart.proofs.Stated.{first_here}
 use Rattle.mm_improve.proofs.choice.bare_hypothesis.Goals as goal
 use Rattle.mm_improve.proofs.choice.bare_hypothesis.Goals.{else-is_same-via-then-is_same+else-is_empty, else-is_same-via-else-is_same}
 

@@ -1,6 +1,6 @@
 use Rattle.std.proofs.Common.{◌≡◌, [], None, take}
-use Rattle.mm_improve.specs.Items.{same_goal}
-use Rattle.mm_improve.specs.Options.{first}
+use Rattle.mm_chart.specs.Items.{same_goal}
+use Rattle.mm_chart.specs.Options.{first}
 use Rattle.mm_improve.proofs.choice.bare_hypothesis.Given as goal
 
 abbrev pub invariant-loop-hypothesis : goal.invariant-loop-hypothesis

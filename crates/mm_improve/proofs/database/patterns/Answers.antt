@@ -1,5 +1,5 @@
 use Rattle.std.proofs.Common.{ℕ, Bool, ◌&&◌, not, ◌++◌, ◌∷◌, [], sym, ◌∙◌, ap}
-use Rattle.mm_improve.specs.Items.{Assertion}
+use Rattle.mm_chart.specs.Items.{Assertion}
 use Rattle.mm_improve.specs.Assertions.{has_essential, may_be_used}
 use Rattle.mm_improve.specs.Grammars.{assertion_of}
 use Rattle.mm_improve.specs.Narrow.{is_taken}

@@ -7,7 +7,7 @@ use Rattle.mm_plain.specs.Lengths.{is_long}
 use Rattle.mm_plain.specs.Valid.{IsString, first_setting}
 use Rattle.mm_improve.specs.Assertions.{matches}
 use Rattle.mm_improve.specs.Finding.{HasStrings, may_serve, serves_at}
-use Rattle.mm_improve.specs.Options.{first, is_there, on}
+use Rattle.mm_chart.specs.Options.{first, is_there, on}
 use Rattle.mm_improve.specs.Proving.{premise_proof, proof_of}
 use Rattle.mm_improve.specs.Ranks.{Use}
 use Rattle.mm_improve.specs.Searches.{terms}

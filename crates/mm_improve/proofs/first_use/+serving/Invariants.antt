@@ -2,7 +2,7 @@ use Rattle.std.proofs.Common.{◌≡◌, ◌+◌, ◌*◌, None, drop, filter, m
 use Rattle.std.specs.List.{flat_map, list_all, range_with_len}
 use Rattle.mm_improve.specs.Assertions.{matches}
 use Rattle.mm_improve.specs.Finding.{may_serve, serves_at}
-use Rattle.mm_improve.specs.Options.{first, is_there}
+use Rattle.mm_chart.specs.Options.{first, is_there}
 use Rattle.mm_improve.specs.Proving.{premise_proof, proof_of}
 use Rattle.mm_improve.specs.Searches.{terms}
 use Rattle.mm_improve.proofs.first_use.+serving.Given as goal

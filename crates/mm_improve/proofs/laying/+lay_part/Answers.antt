@@ -6,7 +6,7 @@ use Rattle.mm_subst.specs.Substitutions.{Pairs}
 use Rattle.mm_plain.specs.declared.plain.Plain.{Plain}
 use Rattle.mm_plain.proofs.Sizes.{height_of-pos}
 use Rattle.mm_improve.specs.declared.fault.ImproveFault.{ImproveFault}
-use Rattle.mm_improve.specs.declared.table.Part.{Part}
+use Rattle.mm_chart.specs.declared.table.Part.{Part}
 use Rattle.mm_improve.specs.Laying.{LaysTree}
 use Rattle.mm_improve.specs.Proving.{rank_limit}
 use Rattle.mm_improve.specs.Searches.{terms}

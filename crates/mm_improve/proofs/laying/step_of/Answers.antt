@@ -1,6 +1,6 @@
 use Rattle.std.proofs.Common.{◌∷◌, ◌++◌, List, ◌∙◌, ap, subst}
-use Rattle.mm_improve.specs.declared.table.Part.{Part}
-use Rattle.mm_improve.specs.Charts.{Noted}
+use Rattle.mm_chart.specs.declared.table.Part.{Part}
+use Rattle.mm_chart.specs.Charts.{Noted}
 use Rattle.mm_improve.specs.Proving.{rank_limit}
 use Rattle.mm_improve.specs.Searches.{terms}
 use Rattle.mm_improve.specs.Traces.{kids_of}

@@ -3,7 +3,7 @@ use Rattle.std.specs.List.{list_all}
 use Rattle.mm_subst.specs.Substitutions.{value_of}
 use Rattle.mm_subst.specs.declared.symbol.WSym.TheVariants.{Var}
 use Rattle.mm_scope.specs.Contents.{stated_at}
-use Rattle.mm_improve.specs.Assertions.{are_parted}
+use Rattle.mm_chart.specs.Items.{are_parted}
 use Rattle.mm_improve.proofs.matching.are_apart.Given as goal
 
 abbrev pub invariant-loop-pair : goal.invariant-loop-pair

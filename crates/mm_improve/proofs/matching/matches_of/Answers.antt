@@ -10,9 +10,10 @@ use Rattle.mm_unify.specs.Forbidden.{forbidden}
 use Rattle.mm_unify.specs.Listings.{HasKeys, answer}
 use Rattle.mm_plain.specs.Premises.{variables_for}
 use Rattle.mm_tree.proofs.FreshVariables.{variables-differ}
-use Rattle.mm_improve.specs.Assertions.{are_apart, are_parted, sigma_by}
+use Rattle.mm_improve.specs.Assertions.{are_apart, sigma_by}
+use Rattle.mm_chart.specs.Items.{are_parted}
 use Rattle.mm_improve.specs.Finding.{HasStrings}
-use Rattle.mm_improve.specs.Items.{Grammar}
+use Rattle.mm_chart.specs.Items.{Grammar}
 use Rattle.mm_improve.specs.declared.prover.Prover.{Prover}
 use Rattle.mm_improve.specs.Searches.{terms}
 use Rattle.mm_improve.proofs.FoundLists.{append_none, holds_more, kept_more}

@@ -1,5 +1,5 @@
 use Rattle.std.proofs.Common.{◌≡◌, ◌∷◌, ◌++◌, [], ℕ, List, length, sym, ◌∙◌, ap, arith, subst, refl, ◌+◌, length-append}
-use Rattle.mm_improve.specs.declared.table.Part.{Part}
+use Rattle.mm_chart.specs.declared.table.Part.{Part}
 use Rattle.mm_improve.specs.Proving.{rank_limit}
 use Rattle.mm_improve.specs.Searches.{terms}
 use Rattle.mm_improve.specs.Traces.{whole}

@@ -1,6 +1,6 @@
 use Rattle.std.proofs.Common.{IfOk, Result, Ok, Err, true, sym, ◌∙◌, subst}
-use Rattle.mm_improve.specs.Items.{Grammar}
-use Rattle.mm_improve.specs.Charts.{AreAnswers}
+use Rattle.mm_chart.specs.Items.{Grammar}
+use Rattle.mm_chart.specs.Charts.{AreAnswers}
 use Rattle.mm_improve.specs.Grammars.{grammar_of}
 use Rattle.mm_improve.specs.Narrow.{is_taken, narrowed}
 use Rattle.mm_improve.specs.Searches.{terms}
