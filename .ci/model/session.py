@@ -2,6 +2,7 @@
 from .built import BUILT
 from .database import Fault, read_database
 from .edits import Refusal, Settings, assign, delete, delete_all, delete_floats, initialize, known, let_step, let_variable, load, replace, unify_all, unify_step
+from .improving import Search, improve, improve_all
 from .limits import FIRST_TRIALS, FIRST_UNDO_DEPTH, MOST_BYTES, MOST_LINE_BYTES
 from .lines import LineFault, read_command
 from .machine import first_violation, verify
@@ -15,7 +16,8 @@ NO_PROOF = Refusal(13, b'no proof is in hand')
 PROOF_IN_HAND = Refusal(12, b'a proof is in hand')
 NOT_BUILT = Refusal(60, b'not built yet')
 EDITS = {
-    'assign', 'replace', 'let variable', 'let step', 'unify step', 'unify all', 'initialize step', 'initialize all', 'delete step', 'delete all', 'delete floats'
+    'assign', 'replace', 'let variable', 'let step', 'unify step', 'unify all', 'initialize step', 'initialize all', 'delete step', 'delete all', 'delete floats',
+    'improve'
 }
 
 
@@ -233,6 +235,10 @@ class Session:
             return unify_step(proof, settings, command.arguments[0], command.qualifiers.get('choice'))
         if name in ('initialize step', 'delete step'):
             return (initialize if name == 'initialize step' else delete)(proof, known(proof, command.arguments[0])[0])
+        if name == 'improve':
+            step, depth = command.arguments[0], command.qualifiers.get('depth', 0)
+            search = Search(self.db, theorem, settings.brackets, 'no distinct' in command.qualifiers)
+            return improve_all(search, proof, depth) if step == 'all' else improve(search, proof, step, depth)
         whole = {
             'unify all': lambda: unify_all(proof, settings),
             'initialize all': lambda: initialize(proof, proof.root.size),

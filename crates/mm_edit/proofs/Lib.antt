@@ -7,6 +7,8 @@ pub mod Letting
 pub mod Unifying
 pub mod Falling
 pub mod Initializing
+pub mod Improving
+pub mod ImproveLemmas
 pub mod Deleting
 pub mod Replacing
 pub mod ReplaceLemmas

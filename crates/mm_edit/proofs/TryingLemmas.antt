@@ -18,7 +18,7 @@ pub record IsTaken (s : State) (m : Mark) : Type 0 where
   pub settled : HasNoDrafts s.versions → is_draft m ≡ false
 
 -- what an edit left, where it was gone back on if it was refused
-abbrev pub IsLeft : Mark → Result Unit EditFault → State → State → Type 0
+abbrev pub IsLeft : {A : Type 0} → Mark → Result A EditFault → State → State → Type 0
 IsLeft m r tried now = MatchResult r (λ u. now ≡ tried) (λ f. IsBack m tried now)
 
 pub done-by : (meaning : Result Proof EditFault) (m : Mark) (old tried now : State) (r : Result Unit EditFault) → IsTaken old m → KeepsMarks old.versions tried.versions → IsTried meaning r tried.proof
@@ -29,7 +29,7 @@ done-by meaning m old tried now (Err f) t k h left = (h, left.proof ∙ (k m t.a
 settled-draft : (m : Mark) → is_draft m ≡ false → {A : Type 0} → is_draft m ≡ true → A
 settled-draft m e f = absurd (false≢true (sym e ∙ f))
 
-pub marks-by : (m : Mark) (old tried now : State) (r : Result Unit EditFault) → KeepsMarks old.versions tried.versions → IsLeft m r tried now → KeepsSettled old.versions now.versions
+pub marks-by : {A : Type 0} (m : Mark) (old tried now : State) (r : Result A EditFault) → KeepsMarks old.versions tried.versions → IsLeft m r tried now → KeepsSettled old.versions now.versions
 marks-by m old tried now (Ok u) k left n s a = let e : tried.versions ≡ now.versions = ap (λ (x : State). x.versions) (sym left) in kept-along old.versions tried.versions now.versions n e (k n a)
   where
     kept-along : (v w x : Versions) (n : Mark) → w ≡ x → IsKept v w n → IsKept v x n
@@ -42,7 +42,7 @@ marks-by m old tried now (Err f) k left n s a =
 no-drafts : (v : Versions) → HasNoDrafts v → (length v.draft_roots ≡ 0) × (length v.draft_bindings ≡ 0)
 no-drafts v h = (ap length h.no_roots, ap length h.no_bindings)
 
-pub begun-by : (m : Mark) (old tried now : State) (r : Result Unit EditFault) → IsTaken old m → BeginsAlike old.versions tried.versions → IsLeft m r tried now → HasNoDrafts old.versions → BeginsAlike old.versions now.versions
+pub begun-by : {A : Type 0} (m : Mark) (old tried now : State) (r : Result A EditFault) → IsTaken old m → BeginsAlike old.versions tried.versions → IsLeft m r tried now → HasNoDrafts old.versions → BeginsAlike old.versions now.versions
 begun-by m old tried now (Ok u) t b left none = subst (λ (s : State). BeginsAlike old.versions s.versions) (sym left) b
 begun-by m old tried now (Err f) t b left none =
     let still = left.settled (t.settled none) in
@@ -52,7 +52,7 @@ begun-by m old tried now (Err f) t b left none =
     let here = left.hand in
     (omega (arith, x.0, y.0, there.0, here.0), omega (arith, x.1, y.1, there.1, here.1))
 
-pub drafts-by : (m : Mark) (old tried now : State) (r : Result Unit EditFault) → IsTaken old m → IsLeft m r tried now → HasNoDrafts old.versions → OnErr r (HasNoDrafts now.versions)
+pub drafts-by : {A : Type 0} (m : Mark) (old tried now : State) (r : Result A EditFault) → IsTaken old m → IsLeft m r tried now → HasNoDrafts old.versions → OnErr r (HasNoDrafts now.versions)
 drafts-by m old tried now (Ok u) t left none = tt
 drafts-by m old tried now (Err f) t left none = left.settled (t.settled none)
 

@@ -1,5 +1,5 @@
 -- What an edit of a tree answers, and what it leaves of the tree's versions.
-use Rattle.std.specs.Prelude.{◌≡◌, ◌≢◌, false, Option, None, Some, Result, Ok, Err, if◌then◌else◌}
+use Rattle.std.specs.Prelude.{◌≡◌, ◌≢◌, ℕ, Bool, false, Option, None, Some, Result, Ok, Err, is_some, if◌then◌else◌}
 use Rattle.mm_unify.specs.declared.listing.Listing.{Listing}
 use Rattle.mm_unify.specs.Search.{Answer}
 use Rattle.mm_plain.specs.Shape.{Proof}
@@ -11,6 +11,10 @@ use Rattle.mm_tree.specs.declared.fault.GraftFault.{GraftFault}
 use Rattle.mm_tree.specs.declared.fault.GraftFault.TheVariants as graft
 use Rattle.mm_tree.specs.declared.fault.ReplaceFault.{ReplaceFault}
 use Rattle.mm_tree.specs.declared.fault.ReplaceFault.TheVariants as replace
+use Rattle.mm_improve.specs.declared.fault.ImproveFault.{ImproveFault}
+use Rattle.mm_improve.specs.declared.fault.ImproveFault.TheVariants as improve
+use Rattle.mm_plain.specs.declared.plain.Plain.{Plain}
+use Rattle.mm_edit.specs.Improving.{ProofMap, all_filled, filled_by, proved_count}
 use Rattle.mm_edit.specs.Unifying.{shows_listing}
 use Rattle.mm_edit.specs.declared.edit_fault.EditFault.{EditFault}
 use Rattle.mm_edit.specs.declared.unification.UnifyFault.{UnifyFault}
@@ -75,3 +79,24 @@ replace_fault_of (replace.TooLong step) = TooLong step
 replace_fault_of replace.TooManySteps = TooManySteps
 replace_fault_of replace.TooDeep = TooDeep
 replace_fault_of replace.Memory = Memory
+
+-- and that of a goal's proof
+abbrev pub improve_fault_of : ImproveFault → EditFault
+improve_fault_of improve.TooManySteps = TooManySteps
+improve_fault_of improve.TooDeep = TooDeep
+improve_fault_of improve.Memory = Memory
+
+-- What is found stands in the place of a step now, and it is told whether something is; or that is refused, or memory ran out.
+abbrev pub IsFilled : Option Plain → Proof → ℕ → Result Bool EditFault → Proof → Type 0
+IsFilled found p k (Ok b) now = (filled_by found p k ≡ Ok now) × (is_some found ≡ b)
+IsFilled found p k (Err f) now = IsRefusal (filled_by found p k) f
+
+-- Each step that gets a proof is replaced by it now, and it is told how many they were; or that is refused, or memory ran out.
+abbrev pub IsFilledTimes : ProofMap → Proof → Result ℕ EditFault → Proof → Type 0
+IsFilledTimes prove p (Ok n) now = (all_filled prove p ≡ Ok now) × (n ≡ proved_count prove p.plain)
+IsFilledTimes prove p (Err f) now = IsRefusal (all_filled prove p) f
+
+-- The same, where the proof is as before in the latter cases.
+abbrev pub IsDoneTimes : ProofMap → Result ℕ EditFault → Proof → Proof → Type 0
+IsDoneTimes prove (Ok n) old now = (all_filled prove old ≡ Ok now) × (n ≡ proved_count prove old.plain)
+IsDoneTimes prove (Err f) old now = IsRefusal (all_filled prove old) f × (now ≡ old)

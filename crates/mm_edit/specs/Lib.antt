@@ -8,6 +8,8 @@ pub mod Letting
 pub mod Unifying
 pub mod Quiet
 pub mod Initializing
+pub mod Improving
+pub mod Proving
 pub mod Deleting
 pub mod Keeping
 pub mod Edited

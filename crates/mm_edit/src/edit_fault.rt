@@ -1,9 +1,10 @@
 //! Why a proof is not edited.
 
 ghost use Rattle.std.specs.Prelude.{◌≡◌};
-ghost use Rattle.mm_edit.specs.Edited.{edit_fault_of, graft_fault_of, replace_fault_of};
+ghost use Rattle.mm_edit.specs.Edited.{edit_fault_of, graft_fault_of, improve_fault_of, replace_fault_of};
 ghost use Rattle.mm_edit.specs.declared.edit_fault.EditFault.TheVariants.{Memory, WorkSpent};
 
+use mm_improve::ImproveFault;
 use mm_tree::{BindFault, GraftFault, ReplaceFault, WorkSpent};
 use std::alloc::AllocError;
 use thiserror::Error;
@@ -26,6 +27,9 @@ pub enum EditFault {
     /// The step names no statement.
     #[error("the step is unknown")]
     StepUnknown,
+    /// The step has work variables.
+    #[error("the step has work variables")]
+    HasWork,
     /// The step's target is its source.
     #[error("the step is not pending")]
     NotPending,
@@ -107,6 +111,18 @@ impl From<ReplaceFault> for EditFault {
             ReplaceFault::TooManySteps => EditFault::TooManySteps,
             ReplaceFault::TooDeep => EditFault::TooDeep,
             ReplaceFault::Memory => EditFault::Memory,
+        }
+    }
+}
+
+impl From<ImproveFault> for EditFault {
+    ghost from_gives = { λ i e. e ≡ improve_fault_of i };
+
+    fn from(fault: ImproveFault) -> EditFault {
+        match fault {
+            ImproveFault::TooManySteps => EditFault::TooManySteps,
+            ImproveFault::TooDeep => EditFault::TooDeep,
+            ImproveFault::Memory => EditFault::Memory,
         }
     }
 }

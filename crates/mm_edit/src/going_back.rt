@@ -8,11 +8,11 @@ use crate::edit_fault::EditFault;
 use mm_tree::{Mark, Tree};
 
 /// Goes back to a version where an edit of several calls is refused, or memory ran out in it.
-pub fn back_where_refused(
+pub fn back_where_refused<T>(
     tree: &mut Tree,
     before: Mark,
-    tried: Result<(), EditFault>,
-) -> Result<(), EditFault>
+    tried: Result<T, EditFault>,
+) -> Result<T, EditFault>
     requires { IsAlive tree.old.versions before }
     ensures same { result ≡ tried }
     ensures left { MatchResult result (λ _. tree.new ≡ tree.old) (λ _. IsBack before tree.old tree.new) }

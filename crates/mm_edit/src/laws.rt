@@ -11,6 +11,7 @@ ghost use Rattle.mm_subst.specs.Statements.{statement_of};
 ghost use Rattle.mm_edit.specs.Assigning.{assigned};
 ghost use Rattle.mm_edit.specs.Built.{IsBuiltProof};
 ghost use Rattle.mm_edit.specs.Deleting.{deleted, floats_deleted};
+ghost use Rattle.mm_edit.specs.Improving.{MapsToProofs, ProofMap, all_improved, improved};
 ghost use Rattle.mm_edit.specs.Initializing.{all_initialized, initialized};
 ghost use Rattle.mm_edit.specs.Keeping.{IsKept, IsProofOf};
 ghost use Rattle.mm_edit.specs.Labelling.{label_tree_at, labels_for};
@@ -22,7 +23,8 @@ ghost use Rattle.mm_edit.specs.Unifying.{all_unified, first_unifier, step_unifie
 use mm_scope::mandatory_variables_differ;
 
 /// Each accepted edit of a valid proof gives a valid proof of the same goal, and its counter of work variables never
-/// falls. What is let for a work variable or for a step has symbols of the database, and work variables that were drawn.
+/// falls. What is let for a work variable or for a step has symbols of the database, and work variables that were drawn. What
+/// is found for a step is a proof of what it is to prove.
 pub fn accepted_edits_keep_proofs_valid(bytes: &[u8])
     ensures assigned { (at k id : ℕ) (set : Settings) (goal : List WSym) (p q : Proof) → IsProofOf bytes.now at goal p → assigned bytes.now at set p k id ≡ Ok q → IsKept bytes.now at goal p q }
     ensures replaced { (at k id : ℕ) (set : Settings) (goal : List WSym) (p q : Proof) → IsProofOf bytes.now at goal p → replaced bytes.now at set p k id ≡ Ok q → IsKept bytes.now at goal p q }
@@ -32,6 +34,8 @@ pub fn accepted_edits_keep_proofs_valid(bytes: &[u8])
     ensures all_unified { (at : ℕ) (set : Settings) (goal : List WSym) (p q : Proof) → IsProofOf bytes.now at goal p → all_unified bytes.now set p ≡ Ok q → IsKept bytes.now at goal p q }
     ensures initialized { (at k : ℕ) (goal : List WSym) (p q : Proof) → IsProofOf bytes.now at goal p → initialized bytes.now p k ≡ Ok q → IsKept bytes.now at goal p q }
     ensures all_initialized { (at : ℕ) (goal : List WSym) (p q : Proof) → IsProofOf bytes.now at goal p → all_initialized bytes.now p ≡ Ok q → IsKept bytes.now at goal p q }
+    ensures improved { (at k : ℕ) (prove : ProofMap) (goal : List WSym) (p q : Proof) → MapsToProofs bytes.now at prove → IsProofOf bytes.now at goal p → improved prove p k ≡ Ok q → IsKept bytes.now at goal p q }
+    ensures all_improved { (at : ℕ) (prove : ProofMap) (goal : List WSym) (p q : Proof) → MapsToProofs bytes.now at prove → IsProofOf bytes.now at goal p → all_improved prove p ≡ Ok q → IsKept bytes.now at goal p q }
     ensures deleted { (at k : ℕ) (goal : List WSym) (p q : Proof) → IsProofOf bytes.now at goal p → deleted p k ≡ Ok q → IsKept bytes.now at goal p q }
     ensures floats_deleted { (at : ℕ) (goal : List WSym) (p q : Proof) → IsProofOf bytes.now at goal p → floats_deleted bytes.now p ≡ Ok q → IsKept bytes.now at goal p q }
 {

@@ -8,6 +8,7 @@ mod deletion;
 mod edit_fault;
 mod fresh;
 mod going_back;
+mod improvement;
 mod initialization;
 mod label_list;
 mod laws;
@@ -23,6 +24,7 @@ mod unify_rounds;
 pub use assign_step::assign;
 pub use deletion::{delete, delete_floats};
 pub use edit_fault::EditFault;
+pub use improvement::{improve, improve_all};
 pub use initialization::{initialize, initialize_all};
 pub use laws::{
     accepted_edits_keep_proofs_valid, built_proofs_are_loaded, unify_all_leaves_no_only_unifier,

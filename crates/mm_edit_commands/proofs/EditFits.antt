@@ -1,6 +1,7 @@
 -- The answers of edits fit a sound state.
-use Rattle.std.proofs.Common.{◌≡◌, ℕ, Bool, true, false, cond, ◌||◌, List, [], ◌∷◌, map, Option, Some, Result, Ok, Err, refl, sym, ◌∙◌, ap, subst}
-use Rattle.mm_scope.specs.Contents.{is_variable_of, stated_at}
+use Rattle.std.proofs.Common.{◌≡◌, ℕ, ◌<◌, length, Bool, true, false, cond, not, ◌||◌, List, [], ◌∷◌, map, Option, None, Some, Result, Ok, Err, refl, sym, ◌∙◌, ap, subst}
+use Rattle.mm_scope.specs.Contents.{is_variable_of, labels_of, stated_at}
+use Rattle.mm_stated.specs.declared.statement.Kind.TheVariants.{Theorem}
 use Rattle.mm_subst.specs.Statements.{statement_of, symbol_of}
 use Rattle.mm_subst.specs.Symbols.{has_work, is_work}
 use Rattle.mm_subst.specs.declared.symbol.WSym.{WSym}
@@ -10,11 +11,13 @@ use Rattle.mm_unify.specs.declared.listing.Settings.{Settings}
 use Rattle.mm_edit.specs.Assigning.{assigned}
 use Rattle.mm_edit.specs.Keeping as keeping
 use Rattle.mm_edit.specs.Listed.{listed_at}
+use Rattle.mm_edit.specs.Proving.{proofs_found}
 use Rattle.mm_edit.specs.Replacing.{replaced}
 use Rattle.mm_edit.specs.Steps.{is_unknown}
 use Rattle.mm_edit.specs.declared.edit_fault.EditFault.{EditFault}
 use Rattle.mm_edit.proofs.Assigning.{kept-assigned}
 use Rattle.mm_edit.proofs.Deleting.{kept-floats_deleted}
+use Rattle.mm_edit.proofs.Improving.{kept-improved, kept-all_improved}
 use Rattle.mm_edit.proofs.Initializing.{kept-all_initialized, kept-deleted, kept-initialized}
 use Rattle.mm_edit.proofs.Letting.{kept-variable_let, kept-step_let}
 use Rattle.mm_edit.proofs.Replacing.{kept-replaced}
@@ -35,9 +38,11 @@ use Rattle.mm_shell.proofs.FindLemmas.{proof_found}
 use Rattle.mm_shell.proofs.HistoryLemmas.{edited_open}
 use Rattle.mm_shell.proofs.FitLemmas.{rows_fit, given_fits, done_fits, rows_end}
 use Rattle.mm_edit_commands.specs.Edits.{Edit, assign, counts_of, delete_numbered, edit_of, edit_in, edits, edit_answer, initialize_numbered, let_step, let_variable, replace, unify_numbered, with_statement}
+use Rattle.mm_edit_commands.specs.Improving.{depth_of, improve_all, improve_numbered}
 use Rattle.mm_edit_commands.specs.Refusals.{edit_refusal, unify_refusal, wrong_word}
 use Rattle.mm_edit_commands.specs.Steps.{step_number}
 use Rattle.mm_edit_commands.specs.Values.{is_empty, value_of}
+use Rattle.mm_edit_commands.proofs.Proved.{proves}
 use Rattle.mm_edit_commands.proofs.ValueLemmas.{value_string}
 
 -- ## A valid proof, as edits see it
@@ -122,20 +127,34 @@ initialize_keeps bytes theorem p q k valid e = (kept-initialized bytes theorem (
 delete_keeps : (bytes : List ℕ) (theorem : ℕ) (p q : Proof) (k : ℕ) → IsProofOf bytes theorem p → delete_numbered p k ≡ Ok q → IsProofOf bytes theorem q
 delete_keeps bytes theorem p q k valid e = (kept-deleted bytes theorem (statement_of bytes theorem) p q k (of_statement bytes theorem p valid) (ok_by _ (edit_refusal [] k) q e)).valid
 
-pub edit_keeps : (m : Meaning) (set : Settings) (bytes : List ℕ) (theorem : ℕ) (p q : Proof) → IsProofOf bytes theorem p → edit_of m set bytes theorem p ≡ Ok q → IsProofOf bytes theorem q
+improve_keeps : (set : Settings) (bytes : List ℕ) (theorem : ℕ) (p q : Proof) (k : ℕ) (depth : Option ℕ) (no_distinct : Bool) → theorem < length (labels_of bytes) → (stated_at bytes theorem).kind ≡ Theorem → IsProofOf bytes theorem p
+    → improve_numbered set bytes theorem p k depth no_distinct ≡ Ok q → IsProofOf bytes theorem q
+improve_keeps set bytes theorem p q k depth no_distinct own kind valid e =
+    let prove = proofs_found bytes theorem set no_distinct (depth_of depth) in
+    (kept-improved bytes theorem prove (statement_of bytes theorem) p q k (proves bytes theorem set no_distinct (depth_of depth) own kind) (of_statement bytes theorem p valid) (ok_by _ (edit_refusal [] k) q e)).valid
+
+improve_all_keeps : (set : Settings) (bytes : List ℕ) (theorem : ℕ) (p q : Proof) (depth : Option ℕ) (no_distinct : Bool) → theorem < length (labels_of bytes) → (stated_at bytes theorem).kind ≡ Theorem → IsProofOf bytes theorem p
+    → improve_all set bytes theorem p depth no_distinct ≡ Ok q → IsProofOf bytes theorem q
+improve_all_keeps set bytes theorem p q depth no_distinct own kind valid e =
+    let prove = proofs_found bytes theorem set no_distinct (depth_of depth) in
+    (kept-all_improved bytes theorem prove (statement_of bytes theorem) p q (proves bytes theorem set no_distinct (depth_of depth) own kind) (of_statement bytes theorem p valid) (ok_by _ (edit_refusal [] 0) q e)).valid
+
+pub edit_keeps : (m : Meaning) (set : Settings) (bytes : List ℕ) (theorem : ℕ) (p q : Proof) → theorem < length (labels_of bytes) → (stated_at bytes theorem).kind ≡ Theorem → IsProofOf bytes theorem p → edit_of m set bytes theorem p ≡ Ok q → IsProofOf bytes theorem q
 unfolding edit_of
-edit_keeps (meaning.Assign step label guarded_too) set bytes theorem p q valid e = assign_keeps set bytes theorem p q step label guarded_too valid e
-edit_keeps (meaning.Replace step label guarded_too) set bytes theorem p q valid e = replace_keeps set bytes theorem p q step label guarded_too valid e
-edit_keeps (meaning.LetVariable number text word) set bytes theorem p q valid e = let_variable_keeps bytes theorem p q number text word valid e
-edit_keeps (meaning.LetStep step text word) set bytes theorem p q valid e = let_step_keeps set bytes theorem p q step text word valid e
-edit_keeps (meaning.UnifyStep step choice) set bytes theorem p q valid e = unify_step_keeps set bytes theorem p q (step_number p.plain step) choice valid e
-edit_keeps meaning.UnifyAll set bytes theorem p q valid e = (kept-all_unified bytes theorem set (statement_of bytes theorem) p q (of_statement bytes theorem p valid) (ok_by _ (edit_refusal [] 0) q e)).valid
-edit_keeps (meaning.InitializeStep step) set bytes theorem p q valid e = initialize_keeps bytes theorem p q (step_number p.plain step) valid e
-edit_keeps meaning.InitializeAll set bytes theorem p q valid e = (kept-all_initialized bytes theorem (statement_of bytes theorem) p q (of_statement bytes theorem p valid) (ok_by _ (edit_refusal [] 0) q e)).valid
-edit_keeps (meaning.DeleteStep step) set bytes theorem p q valid e = delete_keeps bytes theorem p q (step_number p.plain step) valid e
-edit_keeps meaning.DeleteAll set bytes theorem p q valid e = delete_keeps bytes theorem p q (size_of p.plain) valid (rows_end ((is_unknown p.plain (size_of p.plain), NothingChanged) ∷ []) _ q e)
-edit_keeps meaning.DeleteFloats set bytes theorem p q valid e = (kept-floats_deleted bytes theorem (statement_of bytes theorem) p q (of_statement bytes theorem p valid) (ok_by _ (edit_refusal [] 0) q e)).valid
-edit_keeps _ set bytes theorem p q valid e = cc
+edit_keeps (meaning.Assign step label guarded_too) set bytes theorem p q own kind valid e = assign_keeps set bytes theorem p q step label guarded_too valid e
+edit_keeps (meaning.Replace step label guarded_too) set bytes theorem p q own kind valid e = replace_keeps set bytes theorem p q step label guarded_too valid e
+edit_keeps (meaning.LetVariable number text word) set bytes theorem p q own kind valid e = let_variable_keeps bytes theorem p q number text word valid e
+edit_keeps (meaning.LetStep step text word) set bytes theorem p q own kind valid e = let_step_keeps set bytes theorem p q step text word valid e
+edit_keeps (meaning.UnifyStep step choice) set bytes theorem p q own kind valid e = unify_step_keeps set bytes theorem p q (step_number p.plain step) choice valid e
+edit_keeps meaning.UnifyAll set bytes theorem p q own kind valid e = (kept-all_unified bytes theorem set (statement_of bytes theorem) p q (of_statement bytes theorem p valid) (ok_by _ (edit_refusal [] 0) q e)).valid
+edit_keeps (meaning.InitializeStep step) set bytes theorem p q own kind valid e = initialize_keeps bytes theorem p q (step_number p.plain step) valid e
+edit_keeps meaning.InitializeAll set bytes theorem p q own kind valid e = (kept-all_initialized bytes theorem (statement_of bytes theorem) p q (of_statement bytes theorem p valid) (ok_by _ (edit_refusal [] 0) q e)).valid
+edit_keeps (meaning.DeleteStep step) set bytes theorem p q own kind valid e = delete_keeps bytes theorem p q (step_number p.plain step) valid e
+edit_keeps meaning.DeleteAll set bytes theorem p q own kind valid e = delete_keeps bytes theorem p q (size_of p.plain) valid (rows_end ((is_unknown p.plain (size_of p.plain), NothingChanged) ∷ []) _ q e)
+edit_keeps meaning.DeleteFloats set bytes theorem p q own kind valid e = (kept-floats_deleted bytes theorem (statement_of bytes theorem) p q (of_statement bytes theorem p valid) (ok_by _ (edit_refusal [] 0) q e)).valid
+edit_keeps (meaning.Improve step depth no_distinct) set bytes theorem p q own kind valid e = improve_keeps set bytes theorem p q (step_number p.plain step) depth no_distinct own kind valid e
+edit_keeps (meaning.ImproveAll depth no_distinct) set bytes theorem p q own kind valid e = improve_all_keeps set bytes theorem p q depth no_distinct own kind valid e
+edit_keeps _ set bytes theorem p q own kind valid e = cc
 
 -- ## All of them
 
@@ -157,4 +176,4 @@ edits_fit s edit keeps sound = given_fits Nowhere s _ _ (λ here found. given_fi
 
 pub edit_fits : (m : Meaning) (s : State) → IsSound s → Fits Nowhere s (edit_answer m s)
 unfolding edit_answer
-edit_fits m s sound = rows_fit Nowhere s _ _ (edits_fit s (edit_in m s.settings) (λ bytes p e h is. edit_open bytes p (edit_of m s.settings bytes p.theorem p.proof) e h (λ q. edit_keeps m s.settings bytes p.theorem p.proof q h.valid) is) sound)
+edit_fits m s sound = rows_fit Nowhere s _ _ (edits_fit s (edit_in m s.settings) (λ bytes p e h is. edit_open bytes p (edit_of m s.settings bytes p.theorem p.proof) e h (λ q. edit_keeps m s.settings bytes p.theorem p.proof q h.own h.theorem h.valid) is) sound)

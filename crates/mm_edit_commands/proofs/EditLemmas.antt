@@ -44,6 +44,7 @@ fault_takes label k fault.HypothesisNotActive = refl
 fault_takes label k fault.NoSuchStep = refl
 fault_takes label k fault.StepKnown = refl
 fault_takes label k fault.StepUnknown = refl
+fault_takes label k fault.HasWork = refl
 fault_takes label k fault.NotPending = refl
 fault_takes label k fault.OccursInValue = refl
 fault_takes label k fault.NothingChanged = refl

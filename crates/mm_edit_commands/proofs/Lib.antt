@@ -1,3 +1,4 @@
+pub mod Proved
 pub mod ValueLemmas
 pub mod EditLemmas
 pub mod EditFits

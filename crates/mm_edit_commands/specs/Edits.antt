@@ -24,6 +24,7 @@ use Rattle.mm_shell.specs.declared.answer.Change.TheVariants.{Opens}
 use Rattle.mm_shell.specs.declared.refusal.Refusal.{Refusal}
 use Rattle.mm_shell.specs.declared.refusal.Refusal.TheVariants.{Guarded, NothingChanged, OutOfMemory, NotBuilt}
 use Rattle.mm_shell.specs.declared.report.Report.TheVariants.{Counts as Counted}
+use Rattle.mm_edit_commands.specs.Improving.{improve_all, improve_step}
 use Rattle.mm_edit_commands.specs.Refusals.{edit_refusal, unify_refusal, wrong_word}
 use Rattle.mm_edit_commands.specs.Steps.{step_number}
 use Rattle.mm_edit_commands.specs.Values.{is_empty, value_of}
@@ -114,6 +115,8 @@ is_built meaning.InitializeAll = true
 is_built (meaning.DeleteStep step) = true
 is_built meaning.DeleteAll = true
 is_built meaning.DeleteFloats = true
+is_built (meaning.Improve step depth no_distinct) = true
+is_built (meaning.ImproveAll depth no_distinct) = true
 is_built _ = false
 
 -- the proof of a theorem after an edit under the settings
@@ -129,6 +132,8 @@ edit_of meaning.InitializeAll set bytes theorem p = initialize_all bytes p
 edit_of (meaning.DeleteStep step) set bytes theorem p = delete_step p step
 edit_of meaning.DeleteAll set bytes theorem p = delete_all p
 edit_of meaning.DeleteFloats set bytes theorem p = delete_floats bytes p
+edit_of (meaning.Improve step depth no_distinct) set bytes theorem p = improve_step set bytes theorem p step depth no_distinct
+edit_of (meaning.ImproveAll depth no_distinct) set bytes theorem p = improve_all set bytes theorem p depth no_distinct
 edit_of _ set bytes theorem p = Err NotBuilt
 
 -- what an edit comes to

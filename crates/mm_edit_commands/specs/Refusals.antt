@@ -6,7 +6,7 @@ use Rattle.mm_subst.specs.Substitutions.{Pairs}
 use Rattle.mm_unify.specs.declared.listing.Listing.{Listing}
 use Rattle.mm_shell.specs.Choices.{choices_text}
 use Rattle.mm_shell.specs.declared.refusal.Refusal.{Refusal}
-use Rattle.mm_shell.specs.declared.refusal.Refusal.TheVariants.{WrongWord, TooManySteps, TooDeep, NoStep, StepKnown, StepUnknown, NotEarlier, NotActive, NoUnifier, TooLong, TrialsSpent, LengthSpent, SeveralUnifiers, NotPending, NoChoice, OccursInValue, NothingChanged, OutOfMemory, WorkSpent}
+use Rattle.mm_shell.specs.declared.refusal.Refusal.TheVariants.{WrongWord, TooManySteps, TooDeep, NoStep, StepKnown, StepUnknown, NotEarlier, NotActive, NoUnifier, TooLong, TrialsSpent, LengthSpent, SeveralUnifiers, NotPending, NoChoice, OccursInValue, NothingChanged, HasWork, OutOfMemory, WorkSpent}
 
 -- C3, for the word with this number
 abbrev pub wrong_word : ℕ → Refusal
@@ -20,6 +20,7 @@ edit_refusal label k fault.HypothesisNotActive = NotActive label
 edit_refusal label k fault.NoSuchStep = NoStep
 edit_refusal label k fault.StepKnown = StepKnown k
 edit_refusal label k fault.StepUnknown = StepUnknown k
+edit_refusal label k fault.HasWork = HasWork k
 edit_refusal label k fault.NotPending = NotPending k
 edit_refusal label k fault.OccursInValue = OccursInValue k
 edit_refusal label k fault.NothingChanged = NothingChanged

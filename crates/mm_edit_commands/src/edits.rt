@@ -5,7 +5,8 @@ ghost use Rattle.mm_command.specs.Meanings.{meaning_of};
 ghost use Rattle.mm_edit.specs.Counts.{pending_count};
 ghost use Rattle.mm_plain.specs.Numbers.{HasOwnLabels};
 ghost use Rattle.mm_plain.specs.Shape.{size_of};
-ghost use Rattle.mm_scope.specs.Contents.{labels_of};
+ghost use Rattle.mm_scope.specs.Contents.{labels_of, stated_at};
+ghost use Rattle.mm_stated.specs.declared.statement.Kind.TheVariants.{Theorem};
 ghost use Rattle.mm_shell.specs.Sound.{IsOpenIn, IsProofOf, IsSound};
 ghost use Rattle.mm_tree.specs.Versions.{BeginsAlike, HasNoDrafts};
 ghost use Rattle.mm_undo.specs.Histories.{IsHistoryOf, IsMarkOfBeginning, KeepsSettled};
@@ -14,6 +15,7 @@ ghost use Rattle.mm_edit_commands.specs.Ending.{EndsEdit};
 
 use crate::assign::assign;
 use crate::delete::{delete_all, delete_floats, delete_step};
+use crate::improve::{improve_all, improve_step};
 use crate::initialize::{initialize_all, initialize_step};
 use crate::let_text::{let_step, let_variable};
 use crate::replace::replace;
@@ -75,7 +77,9 @@ fn is_built(command: Command<'_>) -> bool
         | Command::InitializeAll
         | Command::DeleteStep { .. }
         | Command::DeleteAll
-        | Command::DeleteFloats => true,
+        | Command::DeleteFloats
+        | Command::Improve { .. }
+        | Command::ImproveAll { .. } => true,
         _ => false,
     }
 }
@@ -167,6 +171,7 @@ fn edit_tree<'a, L: Ledger>(
     steps: &mut Steps<L>,
 ) -> Result<(), Refusal<'a>>
     requires at { theorem.0 < length (labels_of database.now) }
+    requires theorem { (stated_at database.now theorem.0).kind ≡ Theorem }
     requires valid { IsProofOf database.now theorem.0 tree.old.proof }
     requires settled { HasNoDrafts tree.old.versions }
     ensures edited { EditsTree (edit_of (meaning_of command.entry) settings.now database.now theorem.0 tree.old.proof) tree.old.proof result tree.new.proof }
@@ -224,6 +229,31 @@ fn edit_tree<'a, L: Ledger>(
         }
         Command::DeleteAll => delete_all(alloc, settings, database, theorem, tree, steps),
         Command::DeleteFloats => delete_floats(alloc, settings, database, theorem, tree, steps),
+        Command::Improve {
+            step,
+            depth,
+            no_distinct,
+        } => improve_step(
+            alloc,
+            settings,
+            database,
+            theorem,
+            tree,
+            step,
+            depth,
+            no_distinct,
+            steps,
+        ),
+        Command::ImproveAll { depth, no_distinct } => improve_all(
+            alloc,
+            settings,
+            database,
+            theorem,
+            tree,
+            depth,
+            no_distinct,
+            steps,
+        ),
         _ => Err(Refusal::NotBuilt),
     }
 }

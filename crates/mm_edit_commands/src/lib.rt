@@ -4,6 +4,7 @@
 mod assign;
 mod delete;
 mod edits;
+mod improve;
 mod initialize;
 mod let_text;
 mod refusals;

@@ -35,6 +35,7 @@ pub fn edit_refusal<'a>(
         EditFault::NoSuchStep => Refusal::NoStep,
         EditFault::StepKnown => Refusal::StepKnown(number),
         EditFault::StepUnknown => Refusal::StepUnknown(number),
+        EditFault::HasWork => Refusal::HasWork(number),
         EditFault::NotPending => Refusal::NotPending(number),
         EditFault::OccursInValue => Refusal::OccursInValue(number),
         EditFault::NothingChanged => Refusal::NothingChanged,

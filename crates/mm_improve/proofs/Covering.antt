@@ -8,8 +8,8 @@ use Rattle.mm_subst.proofs.Replaced.{applied-nil, applied-cons}
 use Rattle.mm_unify.specs.Matching.{behind, onward, by_value, matches}
 use Rattle.mm_unify.proofs.Sorted.{Among, among_some_length}
 use Rattle.mm_plain.specs.Drawing.{fresh_from}
-use Rattle.mm_improve.specs.Options.{on}
-use Rattle.mm_improve.specs.Items.{value}
+use Rattle.mm_chart.specs.Options.{on}
+use Rattle.mm_chart.specs.Items.{value}
 use Rattle.mm_improve.specs.Grammars.{place, with_variable, seen_in}
 use Rattle.mm_improve.proofs.Translating.{AreSeen, goals, keyed, seen-value, seen-push, fresh-constant, fresh-variable}
 

@@ -11,13 +11,13 @@ use Rattle.mm_subst.specs.Symbols.{has_work}
 use Rattle.mm_subst.specs.Substitutions.{Pairs, value_of, applied}
 use Rattle.mm_unify.proofs.Sorted.{Among, among_mapped}
 use Rattle.mm_plain.specs.Premises.{variables_for}
-use Rattle.mm_improve.specs.Options.{or_else, on, first}
+use Rattle.mm_chart.specs.Options.{or_else, on, first}
 use Rattle.mm_improve.specs.Assertions.{Terms, plain_assertions, parts}
-use Rattle.mm_improve.specs.Items as items
-use Rattle.mm_improve.specs.Items.{Goal, Grammar, Use, Chosen, no_goal, value, by_use, serves, chosen, uses, uses_of, IsAnswer}
+use Rattle.mm_chart.specs.Items as items
+use Rattle.mm_chart.specs.Items.{Goal, Grammar, Use, Chosen, no_goal, value, by_use, serves, chosen, uses, uses_of, IsAnswer}
 use Rattle.mm_improve.specs.Grammars.{joined, place, place_or_none, codes_for, order_for, assertion_of, grammar_of, sigma_of}
 use Rattle.mm_improve.proofs.Forms.{IsPlainAssertion, IsStatedAs}
-use Rattle.mm_improve.proofs.Ranks.{chosen-suc}
+use Rattle.mm_chart.proofs.Ranks.{chosen-suc}
 use Rattle.mm_improve.proofs.Limits.{first_among}
 use Rattle.mm_improve.proofs.Linking.{use_match, use_items, seen, order, order_is, key_here}
 use Rattle.mm_improve.proofs.Ranking as ranking

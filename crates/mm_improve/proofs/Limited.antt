@@ -10,10 +10,10 @@ use Rattle.mm_subst.specs.Statements.{statement_of}
 use Rattle.mm_subst.specs.Symbols.{has_work}
 use Rattle.mm_unify.proofs.Sorted.{among_mapped}
 use Rattle.mm_plain.specs.Premises.{variables_for}
-use Rattle.mm_improve.specs.Options.{is_there, on}
+use Rattle.mm_chart.specs.Options.{is_there, on}
 use Rattle.mm_improve.specs.Assertions.{Terms, plain_assertions}
 use Rattle.mm_improve.specs.Ranks as ranks
-use Rattle.mm_improve.specs.Items.{Assertion, chosen}
+use Rattle.mm_chart.specs.Items.{Assertion, chosen}
 use Rattle.mm_improve.specs.Grammars.{split, place, variable_item, items_of, seen_with, codes_for, assertion_of, grammar_of, chosen_by}
 use Rattle.mm_improve.specs.Proving.{rank_limit, RanksAreLimited}
 use Rattle.mm_improve.proofs.Agreeing.{VariablesDiffer, plain_usable, are_plain, are_stated}

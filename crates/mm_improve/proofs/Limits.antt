@@ -15,13 +15,13 @@ use Rattle.mm_unify.specs.Matching.{behind, onward}
 use Rattle.mm_unify.specs.Parts.{part}
 use Rattle.mm_unify.proofs.Sorted.{Among, among_mapped, among_some_length, among_either}
 use Rattle.mm_unify.proofs.Matched.{behind-some}
-use Rattle.mm_improve.specs.declared.grammar.Item.{Item}
-use Rattle.mm_improve.specs.declared.grammar.Item.TheVariants.{Fixed, Again, New}
-use Rattle.mm_improve.specs.Options.{is_there, or_else, on, first}
-use Rattle.mm_improve.specs.Items.{Goal, Assertion, Grammar, Use, Chosen, by_use, chosen, serves, fits, uses, uses_of, matches, value, IsAnswer}
-use Rattle.mm_improve.proofs.Parts.{length-part, take-part, drop-part}
-use Rattle.mm_improve.proofs.Ranks.{chosen-suc, chosen_next}
-use Rattle.mm_improve.proofs.Symbols.{same-true}
+use Rattle.mm_chart.specs.declared.grammar.Item.{Item}
+use Rattle.mm_chart.specs.declared.grammar.Item.TheVariants.{Fixed, Again, New}
+use Rattle.mm_chart.specs.Options.{is_there, or_else, on, first}
+use Rattle.mm_chart.specs.Items.{Goal, Assertion, Grammar, Use, Chosen, by_use, chosen, serves, fits, uses, uses_of, matches, value, IsAnswer}
+use Rattle.mm_chart.proofs.Parts.{length-part, take-part, drop-part}
+use Rattle.mm_chart.proofs.Ranks.{chosen-suc, chosen_next}
+use Rattle.mm_chart.proofs.Symbols.{same-true}
 
 -- ## Goals by numbers
 

@@ -21,12 +21,13 @@ use Rattle.mm_unify.proofs.Matched.{AreNamed, made}
 use Rattle.mm_unify.proofs.Listed.{lists_matches, restricted_value}
 use Rattle.mm_plain.specs.Drawing.{fresh_from}
 use Rattle.mm_plain.specs.Premises.{variables_for}
-use Rattle.mm_improve.specs.Options.{on}
+use Rattle.mm_chart.specs.Options.{on}
 use Rattle.mm_improve.specs.Assertions as assertions
-use Rattle.mm_improve.specs.Assertions.{Terms, sigma_by, are_apart, are_parted}
+use Rattle.mm_improve.specs.Assertions.{Terms, sigma_by, are_apart}
+use Rattle.mm_chart.specs.Items.{are_parted}
 use Rattle.mm_improve.specs.Ranks as ranks
-use Rattle.mm_improve.specs.Items as items
-use Rattle.mm_improve.specs.Items.{Goal, Use, value}
+use Rattle.mm_chart.specs.Items as items
+use Rattle.mm_chart.specs.Items.{Goal, Use, value}
 use Rattle.mm_improve.specs.Grammars.{split, place, place_or_none, items_of, seen_in, codes_for, order_for, assertion_of, grammar_of, sigma_of, use_by}
 use Rattle.mm_improve.proofs.Forms.{IsPlainAssertion}
 use Rattle.mm_improve.proofs.Translating.{AreSeen, goals, seen-value, same-matches, filtered, fresh-constant}
@@ -128,7 +129,7 @@ module _ (c : Terms) (id : ℕ) (a : IsPlainAssertion c.bytes id) (code : WSym) 
   pub order_is : order_for c.bytes id ≡ order
   order_is = ap (λ (s : List WSym). seen_in keys [] (split s).1) a.statement
 
-  pattern_is : assertions.pattern c.bytes id ≡ d ∷ rest
+  pub pattern_is : assertions.pattern c.bytes id ≡ d ∷ rest
   pattern_is = ap (applied (fresh_from 1 keys)) a.statement ∙ applied-cons (fresh_from 1 keys) d a.text ∙ ap (λ (u : List WSym). u ++ rest) (ap (or_itself d) (fresh-constant 1 keys a.code))
 
   -- of a match

@@ -1,6 +1,6 @@
 -- Places of variables, counted from one on.
 use Rattle.std.proofs.Common.{◌≡◌, refl, ◌∙◌, ap, ℕ, suc, ◌+◌, ◌==◌, Bool, true, false, List, [], ◌∷◌, Option, Some, None, cond, arith}
-use Rattle.mm_improve.specs.Options.{on}
+use Rattle.mm_chart.specs.Options.{on}
 use Rattle.mm_improve.specs.Grammars.{place}
 
 abbrev pub place_from : ℕ → List ℕ → ℕ → Option ℕ

@@ -6,7 +6,7 @@ use Rattle.std.proofs.lemmas.List.Elements.{recursion_from_All}
 use Rattle.mm_scope.specs.Contents.{labels_of, symbols_of, statements_of, stated_at, is_variable_of}
 use Rattle.mm_scope.specs.Laws.{AllDiffer}
 use Rattle.mm_stated.specs.Mandatory.{variables_of}
-use Rattle.mm_stated.specs.Stated.{is_hypothesis, is_essential, floated_by, variable_of}
+use Rattle.mm_stated.specs.Stated.{is_hypothesis, is_essential, floated_by, typecode_of, variable_of}
 use Rattle.mm_stated.specs.declared.statement.Kind.{Kind}
 use Rattle.mm_stated.specs.declared.statement.Kind.TheVariants as kind
 use Rattle.mm_subst.specs.declared.symbol.WSym.{WSym}
@@ -14,10 +14,10 @@ use Rattle.mm_subst.specs.declared.symbol.WSym.TheVariants.{Const, Var, Work}
 use Rattle.mm_subst.specs.Statements.{symbol_of, statement_of}
 use Rattle.mm_subst.specs.Symbols.{is_work, has_work}
 use Rattle.mm_plain.specs.Premises.{premise_ids, premises_of, variables_for}
-use Rattle.mm_plain.proofs.Forms.{formed, no_other}
+use Rattle.mm_plain.proofs.Forms.{counted, formed, no_other}
 use Rattle.mm_sound.proofs.Mandatory.{mandatory_hypotheses}
 use Rattle.mm_sound.proofs.Paired.{pairs_among_keys}
-use Rattle.mm_improve.specs.Options.{on}
+use Rattle.mm_chart.specs.Options.{on}
 use Rattle.mm_improve.specs.Assertions.{has_essential, are_concluded}
 use Rattle.mm_improve.specs.Grammars.{split, place, with_variable, seen_with, seen_in, codes_for}
 use Rattle.mm_improve.proofs.Forms.{typed, IsPlainAssertion}
@@ -121,6 +121,8 @@ module _ (bytes : List ℕ) where
   pub record IsFloated (m : ℕ) : Type 0 where
     pub code : ℕ
     pub key : ℕ
+    pub labelled : m < length (statements_of bytes)
+    pub typecode : typecode_of (stated_at bytes m) ≡ Some code
     pub own : code < length (symbols_of bytes)
     pub varies : is_variable_of bytes key ≡ true
     pub statement : statement_of bytes m ≡ Const code ∷ Var key ∷ []
@@ -149,6 +151,8 @@ module _ (bytes : List ℕ) where
         record {
           code = get_or ss 0 0;
           key = get_or ss 1 0;
+          labelled = subst (λ n. m < n) (sym (counted bytes)) own;
+          typecode = ap (λ (x : Kind). floated_by x ss 0) k ∙ ap (λ (xs : List ℕ). slice_get xs 0) pair;
           own = f.symbols 0 0 f.some;
           varies = f.variable k;
           statement = ap (map (symbol_of bytes)) pair
@@ -299,6 +303,14 @@ module _ (bytes : List ℕ) where
         | inl e ↦ absurd (true≢false (sym v ∙ ap (is_variable_of bytes) e ∙ f))
         | inr e ↦ sym (ap (λ (b : Bool). b || list_any (λ k. m == k) ns) (ne_eqb m n e)) ∙ a
       ]
+
+  pub codes_are_of : (id : ℕ) → is_hypothesis (stated_at bytes id).kind ≡ false → codes_for bytes id ≡ codes (stated_at bytes id).mandatory
+  codes_are_of id h = ap (map (λ h. (split h).0)) (premises_are id h)
+
+  pub count_of_codes : (id : ℕ) → is_hypothesis (stated_at bytes id).kind ≡ false → has_essential bytes id ≡ false → length (codes_for bytes id) ≡ length (variables_for bytes id)
+  count_of_codes id h e =
+      let ms = (stated_at bytes id).mandatory in
+      ap length (codes_are_of id h) ∙ as_many ms (all_floats id h e) ∙ ap length (sym (variables_are id h))
 
   -- its typecodes are constants of the database
   pub own_codes : (id : ℕ) → is_hypothesis (stated_at bytes id).kind ≡ false → has_essential bytes id ≡ false → AllByRecursion (IsOwnCode (length (symbols_of bytes))) (codes_for bytes id)

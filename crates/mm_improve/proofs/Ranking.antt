@@ -15,17 +15,17 @@ use Rattle.mm_unify.specs.Matching.{behind, onward}
 use Rattle.mm_unify.proofs.Sorted.{Among, among_mapped, among_some_length, among_either}
 use Rattle.mm_unify.proofs.Matched.{behind-some}
 use Rattle.mm_plain.specs.Premises.{variables_for}
-use Rattle.mm_improve.specs.declared.grammar.Item.{Item}
-use Rattle.mm_improve.specs.declared.grammar.Item.TheVariants.{Fixed, Again, New}
-use Rattle.mm_improve.specs.Options.{is_there, or_else, on, first}
+use Rattle.mm_chart.specs.declared.grammar.Item.{Item}
+use Rattle.mm_chart.specs.declared.grammar.Item.TheVariants.{Fixed, Again, New}
+use Rattle.mm_chart.specs.Options.{is_there, or_else, on, first}
 use Rattle.mm_improve.specs.Assertions as assertions
 use Rattle.mm_improve.specs.Assertions.{Terms, plain_assertions, parts}
 use Rattle.mm_improve.specs.Ranks as ranks
-use Rattle.mm_improve.specs.Items as items
-use Rattle.mm_improve.specs.Items.{Goal, no_goal, Use, value, by_use, by_hypothesis}
+use Rattle.mm_chart.specs.Items as items
+use Rattle.mm_chart.specs.Items.{Goal, no_goal, Use, value, by_use, by_hypothesis}
 use Rattle.mm_improve.specs.Grammars.{split, place, place_or_none, codes_for, order_for, assertion_of, hypothesis_of, grammar_of, sigma_of, use_by, chosen_by}
 use Rattle.mm_improve.proofs.Forms.{IsPlainAssertion, IsStatedAs}
-use Rattle.mm_improve.proofs.Ranks.{chosen-zero, chosen-suc}
+use Rattle.mm_chart.proofs.Ranks.{chosen-zero, chosen-suc}
 use Rattle.mm_improve.proofs.Translating.{goals}
 use Rattle.mm_improve.proofs.Linking.{same_uses, use_match, use_items, seen, order, order_is, key_here}
 use Rattle.mm_improve.proofs.Serving.{differ-in, same_test, applied-typed, parts_of}

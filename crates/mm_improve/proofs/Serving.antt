@@ -7,8 +7,8 @@ use Rattle.mm_subst.specs.declared.symbol.WSym.{WSym}
 use Rattle.mm_subst.specs.declared.symbol.WSym.TheVariants.{Const, Var, Work}
 use Rattle.mm_subst.specs.Substitutions.{Pairs, value_of, applied}
 use Rattle.mm_subst.proofs.Replaced.{applied-cons, applied-one}
-use Rattle.mm_improve.specs.Options.{on}
-use Rattle.mm_improve.specs.Items.{Goal, no_goal, value}
+use Rattle.mm_chart.specs.Options.{on}
+use Rattle.mm_chart.specs.Items.{Goal, no_goal, value}
 use Rattle.mm_improve.specs.Grammars.{joined, place, place_or_none, with_variable, seen_in}
 use Rattle.mm_improve.proofs.Forms.{typed}
 use Rattle.mm_improve.proofs.Translating.{AreSeen, goals, code_of, place-at}

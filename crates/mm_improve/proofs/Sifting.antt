@@ -1,6 +1,7 @@
 -- Those of the first numbers that pass a test, one number more.
-use Rattle.std.proofs.Common.{◌≡◌, ℕ, suc, zero, ◌+◌, Bool, true, false, cond, List, [], ◌∷◌, ◌++◌, map, filter, refl, sym, ◌∙◌, ap, arith}
+use Rattle.std.proofs.Common.{◌≡◌, ℕ, suc, zero, ◌+◌, Bool, true, false, cond, ◌&&◌, List, [], ◌∷◌, ◌++◌, map, filter, refl, sym, ◌∙◌, ap, arith}
 use Rattle.std.specs.List.{range_with_len}
+use Rattle.std.proofs.lemmas.Bool.{and_parts, true≢false}
 use Rattle.std.proofs.lemmas.List.{map-append}
 use Rattle.std.proofs.lemmas.List.Elements.{filter-append}
 
@@ -15,7 +16,7 @@ range_more a (suc n) =
     ∙ ap (λ (k : ℕ). a ∷ (range_with_len (suc a) n ++ k ∷ [])) e
     ∙ sym (ap (λ (ks : List ℕ). ks ++ (a + suc n) ∷ []) before)
 
-first_more : (n : ℕ) → range_with_len 0 (n + 1) ≡ range_with_len 0 n ++ n ∷ []
+pub first_more : (n : ℕ) → range_with_len 0 (n + 1) ≡ range_with_len 0 n ++ n ∷ []
 first_more n =
     let next : n + 1 ≡ suc n = omega arith in
     let same : 0 + n ≡ n = omega arith in
@@ -37,3 +38,21 @@ module _ {A : Type 0} (f : ℕ → A) (p : ℕ → Bool) where
 
   pub one_passed : (n : ℕ) → p n ≡ false → map f (filter p (range_with_len 0 n)) ≡ map f (filter p (range_with_len 0 (n + 1)))
   one_passed n h = sym (sifted n ∙ ap (λ (b : Bool). map f (filter p (range_with_len 0 n)) ++ map f (cond b (n ∷ []) [])) h ∙ nothing (map f (filter p (range_with_len 0 n))))
+
+  -- and of these those that pass a second test
+  pub both_taken : (q : A → Bool) (n : ℕ) → (q (f n) && p n) ≡ true → filter q (map f (filter p (range_with_len 0 n))) ++ f n ∷ [] ≡ filter q (map f (filter p (range_with_len 0 (n + 1))))
+  both_taken q n h =
+      let w = and_parts (q (f n)) (p n) h in
+      let old = map f (filter p (range_with_len 0 n)) in
+      sym (ap (filter q) (sym (one_taken n w.1)) ∙ filter-append q old (f n ∷ []) ∙ ap (λ (b : Bool). filter q old ++ cond b (f n ∷ []) []) w.0)
+
+  pub not_taken : (q : A → Bool) (n : ℕ) → (q (f n) && p n) ≡ false → filter q (map f (filter p (range_with_len 0 n))) ≡ filter q (map f (filter p (range_with_len 0 (n + 1))))
+  not_taken q n h = by (p n) (q (f n)) refl refl h
+    where
+      old : List A
+      old = map f (filter p (range_with_len 0 n))
+
+      by : (a b : Bool) → p n ≡ a → q (f n) ≡ b → (q (f n) && p n) ≡ false → filter q old ≡ filter q (map f (filter p (range_with_len 0 (n + 1))))
+      by false b e k h = ap (filter q) (one_passed n e)
+      by true false e k h = sym (ap (filter q) (sym (one_taken n e)) ∙ filter-append q old (f n ∷ []) ∙ ap (λ (b : Bool). filter q old ++ cond b (f n ∷ []) []) k ∙ nothing (filter q old))
+      by true true e k h = absurd (true≢false (sym (ap (λ (b : Bool). b && p n) k ∙ e) ∙ h))

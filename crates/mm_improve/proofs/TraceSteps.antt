@@ -8,7 +8,7 @@ use Rattle.mm_subst.specs.declared.symbol.WSym.{WSym}
 use Rattle.mm_plain.specs.declared.plain.Plain.{Plain}
 use Rattle.mm_plain.specs.Shape.{known, steps_of, size_of}
 use Rattle.mm_plain.proofs.Equations.{steps_of-known, length-steps_of, size_of-pos, flat_map-map}
-use Rattle.mm_improve.specs.declared.table.Part.{Part}
+use Rattle.mm_chart.specs.declared.table.Part.{Part}
 use Rattle.mm_improve.specs.Assertions.{Terms}
 use Rattle.mm_improve.specs.Traces.{string_of, tree_at, IsRanked, IsOver}
 
@@ -19,7 +19,7 @@ flat_map-append f (x ∷ xs) ys = flat_map-cons f x (xs ++ ys) ∙ ap (λ zs. f 
 reverse-more : {X : Type 0} (xs : List X) (x : X) → reverse (xs ++ x ∷ []) ≡ x ∷ reverse xs
 reverse-more xs x = reverse-append xs (x ∷ [])
 
-module _ (c : Terms) (r : ℕ) (t : List WSym) where
+module _ (c : Terms) (r : ℕ) (goal : WSym) (t : List WSym) where
   abbrev T : Part → Plain
   T = tree_at c r t
 
@@ -28,10 +28,10 @@ module _ (c : Terms) (r : ℕ) (t : List WSym) where
 
   -- the steps of the parts on the stack, and then those that are done
   pub record AreLeft (whole : Part) (stack done : List Part) : Type 0 where
-    pub ranked : AllByRecursion (IsRanked c r t) stack
+    pub ranked : AllByRecursion (IsRanked c r goal t) stack
     pub steps_are : flat_map (λ p. steps_of (tree_at c r t p)) stack ++ reverse (map (tree_at c r t) done) ≡ steps_of (tree_at c r t whole)
 
-  pub begun : (whole : Part) → IsRanked c r t whole → AreLeft whole (whole ∷ []) []
+  pub begun : (whole : Part) → IsRanked c r goal t whole → AreLeft whole (whole ∷ []) []
   begun whole h = record { ranked = (h, tt); steps_are = append-nil (flat_map steps (whole ∷ [])) ∙ flat_map-cons steps whole [] ∙ append-nil (steps whole) }
 
   split_all : (P : Part → Type 0) (xs : List Part) (x : Part) → AllByRecursion P (xs ++ x ∷ []) → AllByRecursion P xs × P x
@@ -42,13 +42,13 @@ module _ (c : Terms) (r : ℕ) (t : List WSym) where
   join_all P [] ys h k = k
   join_all P (x ∷ xs) ys h k = (h.0, join_all P xs ys h.1 k)
 
-  pub last_ranked : (whole : Part) (rest : List Part) (p : Part) (done : List Part) → AreLeft whole (rest ++ p ∷ []) done → IsRanked c r t p
-  last_ranked whole rest p done h = (split_all (IsRanked c r t) rest p h.ranked).1
+  pub last_ranked : (whole : Part) (rest : List Part) (p : Part) (done : List Part) → AreLeft whole (rest ++ p ∷ []) done → IsRanked c r goal t p
+  last_ranked whole rest p done h = (split_all (IsRanked c r goal t) rest p h.ranked).1
 
-  pub one_more : (whole : Part) (rest : List Part) (p : Part) (done new : List Part) → AreLeft whole (rest ++ p ∷ []) done → IsOver c r t p rest new → AreLeft whole new (done ++ p ∷ [])
+  pub one_more : (whole : Part) (rest : List Part) (p : Part) (done new : List Part) → AreLeft whole (rest ++ p ∷ []) done → IsOver c r goal t p rest new → AreLeft whole new (done ++ p ∷ [])
   one_more whole rest p done new h o =
       let kids = o.kids in
-      let w = split_all (IsRanked c r t) rest p h.ranked in
+      let w = split_all (IsRanked c r goal t) rest p h.ranked in
       let back = reverse (map T done) in
       let own : steps p ≡ flat_map steps kids ++ T p ∷ [] =
       ap steps_of o.is ∙ steps_of-known (string_of t p) o.id o.sigma (map T kids) ∙ ap (λ xs. xs ++ known (string_of t p) o.id o.sigma (map T kids) ∷ []) (flat_map-map steps_of T kids) ∙ ap (λ x. flat_map steps kids ++ x ∷ []) (sym o.is) in
@@ -56,7 +56,7 @@ module _ (c : Terms) (r : ℕ) (t : List WSym) where
       flat_map-append steps rest (p ∷ []) ∙ ap (λ xs. flat_map steps rest ++ xs) (flat_map-cons steps p [] ∙ append-nil (steps p) ∙ own) in
       let now : reverse (map T (done ++ p ∷ [])) ≡ T p ∷ back = ap reverse (map-append T done (p ∷ [])) ∙ reverse-more (map T done) (T p) in
       record {
-        ranked = subst (AllByRecursion (IsRanked c r t)) (sym o.added) (join_all (IsRanked c r t) rest kids w.0 o.ranked);
+        ranked = subst (AllByRecursion (IsRanked c r goal t)) (sym o.added) (join_all (IsRanked c r goal t) rest kids w.0 o.ranked);
         steps_are = ap (λ xs. flat_map steps xs ++ reverse (map T (done ++ p ∷ []))) o.added
             ∙ ap (λ ys. flat_map steps (rest ++ kids) ++ ys) now
             ∙ ap (λ xs. xs ++ T p ∷ back) (flat_map-append steps rest kids)

@@ -11,11 +11,11 @@ use Rattle.mm_subst.specs.Substitutions.{Pairs, value_at, value_of, or_itself, a
 use Rattle.mm_subst.proofs.Replaced.{applied-nil, applied-cons}
 use Rattle.mm_unify.specs.Matching.{lengths, behind, onward, by_value, matches}
 use Rattle.mm_plain.specs.Drawing.{fresh_from}
-use Rattle.mm_improve.specs.declared.grammar.Item.{Item}
-use Rattle.mm_improve.specs.declared.grammar.Item.TheVariants.{Fixed, Again, New}
-use Rattle.mm_improve.specs.Options.{on}
-use Rattle.mm_improve.specs.Items as items
-use Rattle.mm_improve.specs.Items.{Goal, no_goal, value, whole}
+use Rattle.mm_chart.specs.declared.grammar.Item.{Item}
+use Rattle.mm_chart.specs.declared.grammar.Item.TheVariants.{Fixed, Again, New}
+use Rattle.mm_chart.specs.Options.{on}
+use Rattle.mm_chart.specs.Items as items
+use Rattle.mm_chart.specs.Items.{Goal, no_goal, value, whole}
 use Rattle.mm_improve.specs.Grammars.{place, variable_item, with_variable, items_of}
 
 -- a place holds the variable

@@ -1,19 +1,18 @@
 -- The tree of a chosen proof is a step over the trees of its parts.
-use Rattle.std.proofs.Common.{◌≡◌, ◌≤◌, ◌<◌, ℕ, zero, suc, Bool, true, false, cond, ◌&&◌, List, [], ◌∷◌, Option, None, Some, map, refl, sym, ◌∙◌, ap, arith, inl, inr, subst, if◌then◌else◌}
+use Rattle.std.proofs.Common.{◌≡◌, ℕ, zero, suc, Bool, true, false, cond, List, [], ◌∷◌, Option, None, Some, map, refl, sym, ◌∙◌, ap, subst, if◌then◌else◌}
 use Rattle.std.specs.List.{list_all, AllByRecursion}
 use Rattle.std.specs.Cmp.Lexicographic.{pointwise}
-use Rattle.std.proofs.lemmas.Bool.{cases_Bool, and_parts, false≢true, true≢false}
+use Rattle.std.proofs.lemmas.Bool.{and_parts, false≢true}
 use Rattle.mm_scope.specs.Contents.{stated_at, active_at}
 use Rattle.mm_stated.specs.Stated.{is_hypothesis}
 use Rattle.mm_subst.specs.declared.symbol.WSym.{WSym}
-use Rattle.mm_subst.specs.Substitutions.{Pairs, applied}
+use Rattle.mm_subst.specs.Substitutions.{applied}
 use Rattle.mm_subst.specs.Statements.{statement_of}
 use Rattle.mm_subst.specs.Symbols.{is_same}
-use Rattle.mm_plain.specs.declared.plain.Plain.{Plain}
 use Rattle.mm_plain.specs.Lengths.{is_long}
 use Rattle.mm_plain.specs.Premises.{premises_of}
 use Rattle.mm_plain.specs.Shape.{known, unknown}
-use Rattle.mm_improve.specs.Options.{is_there, or_else, on, first}
+use Rattle.mm_chart.specs.Options.{is_there, or_else, on, first}
 use Rattle.mm_improve.specs.Assertions.{Terms, parts}
 use Rattle.mm_improve.specs.Ranks.{Use, Chosen, at_rank, hypothesis, uses, serves, unless_long, chosen, grown, tree}
 use Rattle.mm_improve.proofs.ActiveKinds.{active_are_hypotheses}
@@ -38,7 +37,7 @@ first_passes p (y ∷ xs) x e = by (p y) refl e (λ z. first_passes p xs x z)
     by true q e f = ap p (let z : x ≡ y = cc in z) ∙ q
     by false q e f = f e
 
-all_true : {X : Type 0} (p : X → Bool) (xs : List X) → list_all p xs ≡ true → AllByRecursion (λ x. p x ≡ true) xs
+pub all_true : {X : Type 0} (p : X → Bool) (xs : List X) → list_all p xs ≡ true → AllByRecursion (λ x. p x ≡ true) xs
 all_true p [] h = tt
 all_true p (x ∷ xs) h = let w = and_parts (p x) (list_all p xs) h in (w.0, all_true p xs w.1)
 
@@ -46,7 +45,7 @@ pub same_on : {X Y : Type 0} (f g : X → Y) (P : X → Type 0) → ((x : X) →
 same_on f g P e [] h = refl
 same_on f g P e (x ∷ xs) h = ap (λ y. y ∷ map f xs) (e x h.0) ∙ ap (λ ys. g x ∷ ys) (same_on f g P e xs h.1)
 
-all_weaker : {X : Type 0} (P Q : X → Type 0) → ((x : X) → P x → Q x) → (xs : List X) → AllByRecursion P xs → AllByRecursion Q xs
+pub all_weaker : {X : Type 0} (P Q : X → Type 0) → ((x : X) → P x → Q x) → (xs : List X) → AllByRecursion P xs → AllByRecursion Q xs
 all_weaker P Q f [] h = tt
 all_weaker P Q f (x ∷ xs) h = (f x h.0, all_weaker P Q f xs h.1)
 
@@ -55,11 +54,11 @@ some_there None h = absurd (false≢true h)
 some_there (Some a) h = (a, refl)
 
 module _ (c : Terms) where
-  at-zero : (g : List WSym) → chosen c 0 g ≡ unless_long g (on (at_rank 0) (hypothesis c g))
+  pub at-zero : (g : List WSym) → chosen c 0 g ≡ unless_long g (on (at_rank 0) (hypothesis c g))
   unfolding chosen
   at-zero g = refl
 
-  at-suc : (r : ℕ) (g : List WSym) → chosen c (suc r) g ≡ unless_long g (or_else (chosen c r g) (on (at_rank (suc r)) (first (serves c (chosen c r)) (uses c g))))
+  pub at-suc : (r : ℕ) (g : List WSym) → chosen c (suc r) g ≡ unless_long g (or_else (chosen c r g) (on (at_rank (suc r)) (first (serves c (chosen c r)) (uses c g))))
   unfolding chosen
   at-suc r g = refl
 
@@ -71,7 +70,7 @@ module _ (c : Terms) where
   unfolding tree
   tree-suc r g = refl
 
-  short_of : (g : List WSym) (o : Option Chosen) (x : Chosen) → unless_long g o ≡ Some x → (is_long g ≡ false) × (o ≡ Some x)
+  pub short_of : (g : List WSym) (o : Option Chosen) (x : Chosen) → unless_long g o ≡ Some x → (is_long g ≡ false) × (o ≡ Some x)
   short_of g o x h = by (is_long g) refl h
     where
       by : (b : Bool) → is_long g ≡ b → (if b then None else o) ≡ Some x → (is_long g ≡ false) × (o ≡ Some x)
@@ -81,7 +80,7 @@ module _ (c : Terms) where
   not_long : (g : List WSym) (o : Option Chosen) → is_long g ≡ false → unless_long g o ≡ o
   not_long g o e = ap (λ (b : Bool). if b then None else o) e
 
-  is_short : (r : ℕ) (g : List WSym) (x : Chosen) → chosen c r g ≡ Some x → is_long g ≡ false
+  pub is_short : (r : ℕ) (g : List WSym) (x : Chosen) → chosen c r g ≡ Some x → is_long g ≡ false
   is_short zero g x h = (short_of g _ x (sym (at-zero g) ∙ h)).0
   is_short (suc r) g x h = (short_of g _ x (sym (at-suc r g) ∙ h)).0
 
@@ -133,10 +132,10 @@ module _ (c : Terms) where
   parts_there zero g x h = subst (AllThere zero) (sym (no_parts g x h)) tt
   parts_there (suc r) g x h = all_weaker (λ p. is_there (chosen c r p) ≡ true) (λ p. is_there (chosen c (suc r) p) ≡ true) (there_stays r) (parts_of x) (served r g x h)
 
-  tree-at-zero : (g : List WSym) (x : Chosen) → chosen c 0 g ≡ Some x → tree c 0 g ≡ known g x.use_.id x.use_.sigma []
+  pub tree-at-zero : (g : List WSym) (x : Chosen) → chosen c 0 g ≡ Some x → tree c 0 g ≡ known g x.use_.id x.use_.sigma []
   tree-at-zero g x h = tree-zero g ∙ ap (grown c.bytes unknown g) h ∙ ap (λ ps. known g x.use_.id x.use_.sigma (map unknown ps)) (no_parts g x h)
 
-  tree-at-suc : (r : ℕ) (g : List WSym) (x : Chosen) → chosen c (suc r) g ≡ Some x → tree c (suc r) g ≡ known g x.use_.id x.use_.sigma (map (tree c r) (parts_of x))
+  pub tree-at-suc : (r : ℕ) (g : List WSym) (x : Chosen) → chosen c (suc r) g ≡ Some x → tree c (suc r) g ≡ known g x.use_.id x.use_.sigma (map (tree c r) (parts_of x))
   tree-at-suc r g x h = tree-suc r g ∙ ap (grown c.bytes (tree c r) g) h
 
   -- the tree of a goal that has a rank is the same from then on

@@ -1,12 +1,11 @@
 -- The assertions that may be used for a theorem, and the matches of a goal with one of them.
 use Rattle.std.specs.Prelude.{ℕ, Bool, not, ◌&&◌, ◌==◌, List, None, true, map, filter, length, nat_lt}
 use Rattle.std.specs.List.{list_all, list_any, range_with_len}
-use Rattle.mm_tables.specs.Distinct.{are_distinct}
 use Rattle.mm_stated.specs.Stated.{is_hypothesis, is_essential}
 use Rattle.mm_scope.specs.Contents.{stated_at, distinct_at}
 use Rattle.mm_scope.specs.Description.{is_usage_guarded}
 use Rattle.mm_subst.specs.declared.symbol.WSym.{WSym}
-use Rattle.mm_subst.specs.declared.symbol.WSym.TheVariants.{Const, Var, Work}
+use Rattle.mm_subst.specs.declared.symbol.WSym.TheVariants.{Var}
 use Rattle.mm_subst.specs.Substitutions.{Pairs, value_of, applied, with_values}
 use Rattle.mm_subst.specs.Statements.{statement_of}
 use Rattle.mm_unify.specs.declared.listing.Rule.{Rule}
@@ -14,6 +13,7 @@ use Rattle.mm_unify.specs.Forbidden.{forbidden}
 use Rattle.mm_unify.specs.Listings.{answer}
 use Rattle.mm_plain.specs.Premises.{premise_ids, premises_of, variables_for}
 use Rattle.mm_plain.specs.Drawing.{fresh_for}
+use Rattle.mm_chart.specs.Items.{are_parted}
 
 -- where a proof is searched for: the database, the id of the theorem, whether assertions with distinct pairs are left
 -- out, and the rule for unifiers
@@ -49,16 +49,6 @@ pattern bytes id = applied (fresh_for bytes 1 id) (statement_of bytes id)
 -- what a unifier puts for each variable of an assertion
 abbrev pub sigma_by : List ℕ → ℕ → Pairs → Pairs
 sigma_by bytes id u = with_values u (fresh_for bytes 1 id)
-
--- what a test says of a variable; a symbol that is none passes
-abbrev pub if_variable : (ℕ → Bool) → WSym → Bool
-if_variable p (Const n) = true
-if_variable p (Var n) = p n
-if_variable p (Work n) = true
-
--- each variable of the one string must differ from each of the other at the theorem
-abbrev pub are_parted : List (List ℕ) → List WSym → List WSym → Bool
-are_parted groups s t = list_all (if_variable (λ u. list_all (if_variable (λ v. are_distinct groups u v)) t)) s
 
 -- whether the distinct pairs of an assertion hold for the theorem
 abbrev pub are_apart : Terms → ℕ → Pairs → Bool

@@ -9,12 +9,12 @@ use Rattle.mm_subst.specs.Symbols.{has_work}
 use Rattle.mm_subst.specs.Substitutions.{Pairs}
 use Rattle.mm_unify.specs.Forbidden.{heeded}
 use Rattle.mm_plain.specs.Premises.{premises_of, variables_for}
-use Rattle.mm_improve.specs.declared.grammar.Item.{Item}
-use Rattle.mm_improve.specs.declared.grammar.Item.TheVariants.{Fixed, Again, New}
-use Rattle.mm_improve.specs.Options.{on}
+use Rattle.mm_chart.specs.declared.grammar.Item.{Item}
+use Rattle.mm_chart.specs.declared.grammar.Item.TheVariants.{Fixed, Again, New}
+use Rattle.mm_chart.specs.Options.{on}
 use Rattle.mm_improve.specs.Assertions.{Terms, plain_assertions}
 use Rattle.mm_improve.specs.Ranks as ranks
-use Rattle.mm_improve.specs.Items.{Goal, Assertion, Hypothesis, Grammar, Use, Chosen, IsAnswer, no_goal, value}
+use Rattle.mm_chart.specs.Items.{Goal, Assertion, Hypothesis, Grammar, Use, Chosen, IsAnswer, no_goal, value}
 
 -- a string as a typecode and what follows
 abbrev pub split : List WSym → Goal

@@ -1,9 +1,12 @@
-pub mod Options
 pub mod Assertions
 pub mod Ranks
-pub mod Items
-pub mod Charts
 pub mod Grammars
 pub mod Searches
 pub mod Proving
 pub mod Traces
+pub mod Narrow
+pub mod Laying
+pub mod Proofs
+pub mod Choices
+pub mod Steps
+pub mod Finding

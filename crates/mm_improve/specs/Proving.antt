@@ -14,7 +14,7 @@ use Rattle.mm_plain.specs.Lengths.{is_long}
 use Rattle.mm_plain.specs.Premises.{premise_ids}
 use Rattle.mm_plain.specs.Valid.{most_steps, most_levels}
 use Rattle.mm_tree.specs.Trees.{State}
-use Rattle.mm_improve.specs.Options.{or_else, on, first_there, all_there}
+use Rattle.mm_chart.specs.Options.{or_else, on, first_there, all_there}
 use Rattle.mm_improve.specs.Assertions.{Terms, may_be_used, has_essential, matches, parts}
 use Rattle.mm_improve.specs.Ranks.{Use, Chosen, IsAnswer, chosen, tree}
 use Rattle.mm_improve.specs.declared.fault.ImproveFault.{ImproveFault}

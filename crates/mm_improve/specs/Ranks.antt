@@ -10,7 +10,7 @@ use Rattle.mm_subst.specs.Statements.{statement_of}
 use Rattle.mm_plain.specs.declared.plain.Plain.{Plain}
 use Rattle.mm_plain.specs.Shape.{unknown, known}
 use Rattle.mm_plain.specs.Lengths.{is_long}
-use Rattle.mm_improve.specs.Options.{is_there, or_else, on, first}
+use Rattle.mm_chart.specs.Options.{is_there, or_else, on, first}
 use Rattle.mm_improve.specs.Assertions.{Terms, plain_assertions, matches, parts}
 
 -- what the last step of a proof names, with its substitution

@@ -12,12 +12,13 @@ use Rattle.mm_plain.specs.Shape.{known, steps_of, size_of}
 use Rattle.mm_plain.specs.Valid.{most_steps}
 use Rattle.mm_improve.specs.declared.fault.ImproveFault.{ImproveFault}
 use Rattle.mm_improve.specs.declared.fault.ImproveFault.TheVariants.{TooManySteps, TooDeep, Memory}
-use Rattle.mm_improve.specs.declared.table.Part.{Part}
-use Rattle.mm_improve.specs.Options.{is_there}
+use Rattle.mm_chart.specs.declared.table.Part.{Part}
+use Rattle.mm_chart.specs.Options.{is_there}
 use Rattle.mm_improve.specs.Assertions.{Terms}
 use Rattle.mm_improve.specs.Ranks.{chosen, tree}
-use Rattle.mm_improve.specs.Charts.{Noted, goal_of}
-use Rattle.mm_improve.specs.Grammars.{joined, order_for, place, place_or_none}
+use Rattle.mm_chart.specs.Charts.{Noted, goal_of}
+use Rattle.mm_chart.specs.Items.{may_lead}
+use Rattle.mm_improve.specs.Grammars.{grammar_of, joined, order_for, place, place_or_none}
 
 -- the string of a part, behind its typecode
 abbrev pub string_of : List WSym → Part → List WSym
@@ -27,17 +28,22 @@ string_of t p = joined (goal_of t p)
 abbrev pub tree_at : Terms → ℕ → List WSym → Part → Plain
 tree_at c r t p = tree c r (string_of t p)
 
--- A part that is not empty, whose string has a rank of at most r.
-pub record IsRanked (c : Terms) (r : ℕ) (t : List WSym) (p : Part) : Type 0 where
+-- A part that is not empty and may lead to a goal, whose string has a rank of at most r.
+pub record IsRanked (c : Terms) (r : ℕ) (goal : WSym) (t : List WSym) (p : Part) : Type 0 where
   pub ordered : p.from < p.to
   pub within : p.to ≤ length t
   pub plain : has_work (string_of t p) ≡ false
   pub short : length (string_of t p) ≤ most_symbols
   pub there : is_there (chosen c r (string_of t p)) ≡ true
+  pub leads : may_lead (grammar_of c) goal p.code ≡ true
 
 -- stands for a part where there is none
 abbrev pub no_part : Part
 no_part = record { code = Const 0; from = 0; to = 0 }
+
+-- the variables of what an entry names; a hypothesis has none
+abbrev pub keys_of : List ℕ → Noted → List ℕ
+keys_of bytes e = if e.rank == 0 then [] else variables_for bytes e.id
 
 -- the parts for the hypotheses of what an entry names, in order; a hypothesis has none
 abbrev pub kids_of : List ℕ → Noted → List Part
@@ -46,10 +52,10 @@ kids_of bytes e =
     else map (λ n. slice_index_or e.parts (place_or_none (place (order_for bytes e.id) n)) no_part) (variables_for bytes e.id)
 
 -- Parts are added, over whose trees the tree of a part is one step.
-pub record IsOver (c : Terms) (r : ℕ) (t : List WSym) (p : Part) (old new : List Part) : Type 0 where
+pub record IsOver (c : Terms) (r : ℕ) (goal : WSym) (t : List WSym) (p : Part) (old new : List Part) : Type 0 where
   pub kids : List Part
   pub added : new ≡ old ++ kids
-  pub ranked : AllByRecursion (IsRanked c r t) kids
+  pub ranked : AllByRecursion (IsRanked c r goal t) kids
   pub id : ℕ
   pub sigma : Pairs
   pub is : tree_at c r t p ≡ known (string_of t p) id sigma (map (tree_at c r t) kids)

@@ -4,7 +4,7 @@ ghost use Rattle.std.specs.Prelude.{◌≡◌, [], map, slice_index_or, IfOk};
 ghost use Rattle.mm_subst.specs.declared.symbol.WSym.TheVariants.{Const};
 ghost use Rattle.mm_improve.specs.Grammars.{item_of, items_of, place, place_or_none, seen_in, seen_with, variable_item};
 
-use crate::grammar::Item;
+use mm_chart::Item;
 use mm_subst::{Memory, WSym};
 use mm_tables::Pair;
 use std::alloc::Global;

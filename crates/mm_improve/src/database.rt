@@ -1,6 +1,6 @@
 //! The grammar of a theorem, read off its database.
 
-ghost use Rattle.std.specs.Prelude.{◌≡◌, ◌<◌, ◌==◌, ◌++◌, ◌&&◌, not, false, ℕ, [], length, map, slice_index_or, IfOk, All};
+ghost use Rattle.std.specs.Prelude.{◌≡◌, ◌<◌, ◌==◌, ◌++◌, ◌&&◌, filter, not, false, ℕ, [], length, map, slice_index_or, IfOk, All};
 ghost use Rattle.std.specs.List.{list_all, list_any};
 ghost use Rattle.mm_scope.specs.Contents.{labels_of, stated_at, active_at};
 ghost use Rattle.mm_stated.specs.Stated.{is_essential, is_hypothesis};
@@ -9,10 +9,11 @@ ghost use Rattle.mm_subst.specs.Statements.{statement_of};
 ghost use Rattle.mm_unify.specs.Forbidden.{heeded};
 ghost use Rattle.mm_improve.specs.Assertions.{has_essential, may_be_used, plain_assertions};
 ghost use Rattle.mm_improve.specs.Grammars.{assertion_of, grammar_of, hypothesis_of, split};
+ghost use Rattle.mm_improve.specs.Narrow.{is_float_code, is_taken, narrowed};
 ghost use Rattle.mm_improve.specs.Searches.{terms};
 
 use crate::conclusion::{apart_of, itemized};
-use crate::grammar::{Hypothesis, Pattern, Rules};
+use mm_chart::{Hypothesis, Pattern, Rules};
 use mm_plain::variables_for;
 use mm_scope::{Database, Kind, StmtId, Sym};
 use mm_subst::{Brackets, Memory, WSym, own_symbol, statement};
@@ -102,7 +103,7 @@ fn pattern_of(alloc: Global, db: &Database, id: StmtId) -> Result<Pattern, Memor
 }
 
 /// Whether a statement is a `$e`.
-fn is_essential(db: &Database, id: StmtId) -> bool
+pub fn is_essential(db: &Database, id: StmtId) -> bool
     requires { id.0 < length (labels_of db.now) }
     ensures { result ≡ is_essential (stated_at db.now id.0).kind }
 {
@@ -123,6 +124,18 @@ fn some_essential(db: &Database, ids: &[u32]) -> bool
         }
     }
     false
+}
+
+/// Whether an assertion has a `$e` hypothesis.
+#[tactic(auto, unfolding(mm_plain::specs::Premises::premise_ids))]
+pub fn has_essential(db: &Database, id: StmtId) -> bool
+    requires { id.0 < length (labels_of db.now) }
+    ensures { result ≡ has_essential db.now id.0 }
+{
+    match db.kind(id) {
+        Kind::Float | Kind::Essential => false,
+        Kind::Axiom | Kind::Theorem => some_essential(db, db.frame(id).mandatory.as_slice()),
+    }
 }
 
 fn occurs(variable: u32, symbols: &[u32]) -> bool
@@ -148,21 +161,19 @@ fn all_occur(variables: &[u32], symbols: &[u32]) -> bool
     true
 }
 
-/// Whether a statement is an assertion without `$e` that may be used.
-#[tactic(auto, unfolding(mm_plain::specs::Premises::premise_ids))]
-fn is_plain(alloc: Global, db: &Database, id: StmtId, search: Search) -> Result<bool, Memory>
+/// Whether a statement is an assertion that may be used.
+pub fn may_be_used(alloc: Global, db: &Database, id: StmtId, search: Search) -> Result<bool, Memory>
     requires { id.0 < length (labels_of db.now) }
-    ensures { IfOk result (λ b. b ≡ (may_be_used (terms db.now search) id.0 && not (has_essential db.now id.0))) }
+    ensures { IfOk result (λ b. b ≡ may_be_used (terms db.now search) id.0) }
 {
     match db.kind(id) {
         Kind::Float | Kind::Essential => Ok(false),
-        Kind::Axiom | Kind::Theorem => is_plain_assertion(alloc, db, id, search),
+        Kind::Axiom | Kind::Theorem => may_use_assertion(alloc, db, id, search),
     }
 }
 
 /// The same of an assertion.
-#[tactic(auto, unfolding(mm_plain::specs::Premises::premise_ids))]
-fn is_plain_assertion(
+fn may_use_assertion(
     alloc: Global,
     db: &Database,
     id: StmtId,
@@ -170,13 +181,10 @@ fn is_plain_assertion(
 ) -> Result<bool, Memory>
     requires own { id.0 < length (labels_of db.now) }
     requires assertion { is_hypothesis (stated_at db.now id.0).kind ≡ false }
-    ensures { IfOk result (λ b. b ≡ (may_be_used (terms db.now search) id.0 && not (has_essential db.now id.0))) }
+    ensures { IfOk result (λ b. b ≡ may_be_used (terms db.now search) id.0) }
 {
     let frame = db.frame(id);
     if search.no_distinct && !frame.pairs.as_slice().is_empty() {
-        return Ok(false);
-    }
-    if some_essential(db, frame.mandatory.as_slice()) {
         return Ok(false);
     }
     let variables = variables_for(alloc, db, id)?;
@@ -186,14 +194,57 @@ fn is_plain_assertion(
     Ok(!db.usage_guarded(id))
 }
 
-/// The plain assertions before a theorem.
-fn patterns(alloc: Global, db: &Database, search: Search) -> Result<Vec<Pattern>, Memory>
+/// Whether a statement is an assertion without `$e` that may be used.
+fn is_plain(alloc: Global, db: &Database, id: StmtId, search: Search) -> Result<bool, Memory>
+    requires { id.0 < length (labels_of db.now) }
+    ensures { IfOk result (λ b. b ≡ (may_be_used (terms db.now search) id.0 && not (has_essential db.now id.0))) }
+{
+    if has_essential(db, id) {
+        return Ok(false);
+    }
+    may_be_used(alloc, db, id, search)
+}
+
+/// Whether a symbol is the typecode of some `$f`.
+pub fn is_float_code(db: &Database, code: WSym) -> bool
+    ensures { result ≡ is_float_code db.now code }
+{
+    match code {
+        WSym::Const(number) => db.typecode_of_float(Sym(number)),
+        WSym::Var(_) | WSym::Work(_) => false,
+    }
+}
+
+/// Whether a statement is an assertion without `$e` that may be used, and its typecode is taken.
+fn is_plain_taken(
+    alloc: Global,
+    db: &Database,
+    id: StmtId,
+    search: Search,
+    narrow: bool,
+) -> Result<bool, Memory>
+    requires { id.0 < length (labels_of db.now) }
+    ensures { IfOk result (λ b. b ≡ (is_taken db.now narrow (assertion_of db.now id.0).code && (may_be_used (terms db.now search) id.0 && not (has_essential db.now id.0)))) }
+{
+    if narrow && !is_float_code(db, code_of(db, id)) {
+        return Ok(false);
+    }
+    is_plain(alloc, db, id, search)
+}
+
+/// The plain assertions before a theorem; or those alone whose typecodes are typecodes of `$f`.
+fn patterns(
+    alloc: Global,
+    db: &Database,
+    search: Search,
+    narrow: bool,
+) -> Result<Vec<Pattern>, Memory>
     requires { search.at.0 < length (labels_of db.now) }
-    ensures { IfOk result (λ v. v.items ≡ map (assertion_of db.now) (plain_assertions (terms db.now search))) }
+    ensures { IfOk result (λ v. v.items ≡ filter (λ a. is_taken db.now narrow a.code) (map (assertion_of db.now) (plain_assertions (terms db.now search)))) }
 {
     let mut patterns = Vec::new(alloc);
     for id in 0..search.at.0 {
-        if is_plain(alloc, db, StmtId(id), search)? {
+        if is_plain_taken(alloc, db, StmtId(id), search, narrow)? {
             patterns.push(pattern_of(alloc, db, StmtId(id))?)?;
         }
     }
@@ -228,9 +279,23 @@ pub fn rules(alloc: Global, db: &Database, search: Search) -> Result<Rules, Memo
     requires assertion { is_hypothesis (stated_at db.now search.at.0).kind ≡ false }
     ensures { IfOk result (λ g. g ≡ grammar_of (terms db.now search)) }
 {
+    rules_for(alloc, db, search, false)
+}
+
+/// That grammar, or what it has for typecodes of `$f` alone.
+pub fn rules_for(
+    alloc: Global,
+    db: &Database,
+    search: Search,
+    narrow: bool,
+) -> Result<Rules, Memory>
+    requires own { search.at.0 < length (labels_of db.now) }
+    requires assertion { is_hypothesis (stated_at db.now search.at.0).kind ≡ false }
+    ensures { IfOk result (λ g. g ≡ narrowed (is_taken db.now narrow) (grammar_of (terms db.now search))) }
+{
     let ids = db.frame(search.at).active.to_vec(alloc)?;
     let hypotheses = hypotheses(alloc, db, ids.as_slice())?;
-    let assertions = patterns(alloc, db, search)?;
+    let assertions = patterns(alloc, db, search, narrow)?;
     let groups = db.parted(alloc, search.at)?;
     Ok(Rules {
         hypotheses,

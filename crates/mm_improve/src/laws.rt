@@ -2,6 +2,7 @@
 
 ghost use Rattle.mm_improve.specs.Grammars.{AnswersAgree};
 ghost use Rattle.mm_improve.specs.Assertions.{Terms};
+ghost use Rattle.mm_improve.specs.Proofs.{FindsProofs};
 ghost use Rattle.mm_improve.specs.Proving.{RanksAreLimited, TreesUnfold};
 
 use mm_scope::mandatory_variables_differ;
@@ -24,3 +25,10 @@ pub fn ranks_are_limited(bytes: &[u8])
 pub fn trees_unfold()
     ensures { (c : Terms) → TreesUnfold c }
 {}
+
+/// What is found for a goal at a depth is a proof of it.
+pub fn found_proofs_are_proofs(bytes: &[u8])
+    ensures { FindsProofs bytes.now }
+{
+    let _ = bytes;
+}

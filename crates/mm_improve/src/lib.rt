@@ -1,22 +1,22 @@
 //! The chosen proof of a goal: by an active hypothesis, or by the plain assertions that were stated before.
 #![tactic(auto)]
 
+mod choice;
 mod conclusion;
 mod database;
 mod fault;
-mod filling;
-mod fitting;
-mod grammar;
+mod finding;
+mod first_use;
 mod laws;
-mod reach;
-mod search;
-mod table;
+mod laying;
+mod matching;
+mod prover;
+mod proving;
 mod tracing;
 
 pub use database::{Search, rules};
 pub use fault::ImproveFault;
-pub use filling::{chart, chosen_proof};
-pub use grammar::{Hypothesis, Item, Pattern, Rules};
-pub use laws::{answers_agree, ranks_are_limited, trees_unfold};
-pub use table::{Entry, Part, Rows};
+pub use laws::{answers_agree, found_proofs_are_proofs, ranks_are_limited, trees_unfold};
+pub use prover::Prover;
+pub use proving::prove_goal;
 pub use tracing::{Trace, steps_back};

@@ -1,18 +1,20 @@
 //! The steps of a chosen proof, read off the table.
 
-ghost use Rattle.std.specs.Prelude.{◌≡◌, ◌<◌, ◌≤◌, ◌++◌, ◌∷◌, [], ℕ, map, length, IfOk, slice_index_or};
+ghost use Rattle.std.specs.Prelude.{◌≡◌, ◌<◌, ◌≤◌, ◌++◌, ◌∷◌, [], ℕ, true, map, length, IfOk, slice_index_or};
 ghost use Rattle.mm_scope.specs.Contents.{labels_of};
 ghost use Rattle.mm_plain.specs.Premises.{variables_for};
-ghost use Rattle.mm_improve.specs.Charts.{AreAnswers, ArePlaced};
+ghost use Rattle.mm_plain.specs.Valid.{most_steps};
+ghost use Rattle.mm_chart.specs.Charts.{AreAnswersFor, ArePlaced};
 ghost use Rattle.mm_improve.specs.Grammars.{grammar_of, order_for, place, place_or_none};
+ghost use Rattle.mm_chart.specs.Items.{may_lead};
 ghost use Rattle.mm_improve.specs.Proving.{rank_limit};
 ghost use Rattle.mm_improve.specs.Searches.{terms};
-ghost use Rattle.mm_improve.specs.Traces.{IsOver, IsRanked, IsTraced, kids_of, no_part, whole};
+ghost use Rattle.mm_improve.specs.Traces.{IsOver, IsRanked, IsTraced, keys_of, kids_of, no_part, whole};
 
 use crate::conclusion::{itemized, place_or_none};
 use crate::database::{Search, text_of};
 use crate::fault::ImproveFault;
-use crate::table::{Entry, Part, Rows};
+use mm_chart::{Entry, Part, Rows};
 use mm_plain::variables_for;
 use mm_scope::{Database, StmtId, mandatory_variables_differ};
 use mm_subst::{Memory, WSym};
@@ -59,18 +61,19 @@ fn push_each(
     Ok(())
 }
 
-/// Appends the parts for the hypotheses of what an entry names.
-fn push_kids(
+/// Appends the parts for the hypotheses of what an entry names, and answers its variables.
+pub fn push_kids(
     alloc: Global,
     db: &Database,
     entry: &Entry,
     stack: &mut Vec<Part>,
-) -> Result<(), Memory>
+) -> Result<Vec<u32>, Memory>
     requires { 0 < entry.now.rank → entry.now.id < length (labels_of db.now) }
-    ensures { IfOk result (λ _. stack.new.items ≡ stack.old.items ++ kids_of db.now entry.now) }
+    ensures kids { IfOk result (λ _. stack.new.items ≡ stack.old.items ++ kids_of db.now entry.now) }
+    ensures keys { IfOk result (λ v. v.items ≡ keys_of db.now entry.now) }
 {
     if entry.rank == 0 {
-        return Ok(());
+        return Ok(Vec::new(alloc));
     }
     let keys = variables_for(alloc, db, StmtId(entry.id))?;
     let order = order_of(alloc, db, StmtId(entry.id), keys.as_slice())?;
@@ -79,7 +82,8 @@ fn push_kids(
         order.as_slice(),
         entry.parts.as_slice(),
         stack,
-    )
+    )?;
+    Ok(keys)
 }
 
 /// Appends parts over whose trees the tree of a part is one step.
@@ -87,6 +91,7 @@ fn step_down(
     alloc: Global,
     db: &Database,
     search: Search,
+    goal: WSym,
     text: &[WSym],
     rows: &Rows,
     part: Part,
@@ -95,15 +100,20 @@ fn step_down(
     requires own { search.at.0 < length (labels_of db.now) }
     requires ordered { part.from < part.to }
     requires within { part.to ≤ length text.now }
-    requires answers { AreAnswers (grammar_of (terms db.now search)) text.now rows.now }
+    requires leads { may_lead (grammar_of (terms db.now search)) goal part.code ≡ true }
+    requires answers { AreAnswersFor (grammar_of (terms db.now search)) goal text.now rows.now }
     requires placed { ArePlaced text.now rows.now }
-    ensures { IfOk result (λ _. (r : ℕ) → IsRanked (terms db.now search) r text.now part → IsOver (terms db.now search) r text.now part stack.old.items stack.new.items) }
+    ensures { IfOk result (λ _. (r : ℕ) → IsRanked (terms db.now search) r goal text.now part → IsOver (terms db.now search) r goal text.now part stack.old.items stack.new.items) }
 {
     mandatory_variables_differ(db.bytes());
     let _ = search;
+    let _ = goal;
     let _ = text;
     match rows.find(part.from, part.code, part.to) {
-        Some(entry) => push_kids(alloc, db, entry, stack),
+        Some(entry) => {
+            push_kids(alloc, db, entry, stack)?;
+            Ok(())
+        }
         None => Ok(()),
     }
 }
@@ -117,7 +127,7 @@ pub struct Trace {
 
 impl Model for Trace {
     ghost use Rattle.std.specs.Prelude.{List};
-    ghost use Rattle.mm_improve.specs.declared.table.Part.{Part};
+    ghost use Rattle.mm_chart.specs.declared.table.Part.{Part};
 
     ghost Value = { List Part };
 
@@ -144,10 +154,11 @@ pub fn steps_back(
     rows: &Rows,
 ) -> Result<Trace, ImproveFault>
     requires own { search.at.0 < length (labels_of db.now) }
-    requires answers { AreAnswers (grammar_of (terms db.now search)) text.now rows.now }
+    requires answers { AreAnswersFor (grammar_of (terms db.now search)) code text.now rows.now }
     requires placed { ArePlaced text.now rows.now }
-    requires ranked { IsRanked (terms db.now search) (rank_limit db.now (code ∷ text.now)) text.now (whole code text.now) }
-    ensures { IsTraced (terms db.now search) (rank_limit db.now (code ∷ text.now)) text.now (whole code text.now) result }
+    requires ranked { IsRanked (terms db.now search) (rank_limit db.now (code ∷ text.now)) code text.now (whole code text.now) }
+    ensures traced { IsTraced (terms db.now search) (rank_limit db.now (code ∷ text.now)) text.now (whole code text.now) result }
+    ensures few { IfOk result (λ t. length t ≤ most_steps) }
 {
     let mut parts = Vec::new(alloc);
     let mut stack = Vec::new(alloc);
@@ -161,7 +172,7 @@ pub fn steps_back(
         let Some(part) = stack.pop() else {
             return Ok(Trace { parts });
         };
-        step_down(alloc, db, search, text, rows, part, &mut stack)?;
+        step_down(alloc, db, search, code, text, rows, part, &mut stack)?;
         append(&mut parts, part)?;
     }
     if stack.is_empty() {

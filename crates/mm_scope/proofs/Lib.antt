@@ -23,7 +23,7 @@ mod Held
 mod Kept
 mod Ordered
 mod Placed
-mod Bridge
+pub mod Bridge
 mod Lawful
 mod Tabled
 mod Long

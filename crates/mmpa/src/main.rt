@@ -37,7 +37,7 @@ Then the lines of the input are commands, up to EXIT or its end.
 ";
 
 /// Each command that is built, and what it does.
-const COMMANDS: [&str; 28] = [
+const COMMANDS: [&str; 30] = [
     "READ FILE                        reads a database",
     "VERIFY PROOF PATTERN             verifies the proofs of theorems",
     "SHOW TRACE_BACK LABEL [/AXIOMS]  lists what a statement depends on",
@@ -62,6 +62,8 @@ const COMMANDS: [&str; 28] = [
     "DELETE STEP STEP                 makes a step unknown",
     "DELETE ALL                       makes all steps unknown",
     "DELETE FLOATING_HYPOTHESES       makes the steps of $f hypotheses unknown",
+    "IMPROVE STEP [/DEPTH N] [/NO_DISTINCT]  finds a proof of an unknown step",
+    "IMPROVE ALL [/DEPTH N] [/NO_DISTINCT]   finds proofs of all unknown steps",
     "UNDO                             takes the last edit back",
     "REDO                             does it again",
     "SAVE NEW_PROOF [/NORMAL] [/COMPRESSED] [/OVERRIDE]  saves the proof into the database",

@@ -1,5 +1,6 @@
 use Rattle.mm_edit.proofs.Assigning.{kept-assigned}
 use Rattle.mm_edit.proofs.Deleting.{kept-floats_deleted}
+use Rattle.mm_edit.proofs.Improving.{kept-improved, kept-all_improved}
 use Rattle.mm_edit.proofs.Initializing.{kept-all_initialized, kept-initialized, kept-deleted}
 use Rattle.mm_edit.proofs.Letting.{kept-variable_let, kept-step_let}
 use Rattle.mm_edit.proofs.Replacing.{kept-replaced}
@@ -35,3 +36,9 @@ returns-clause-deleted c = λ at k goal p q v h. kept-deleted c.args.bytes.now a
 
 pub returns-clause-floats_deleted : goal.returns-clause-floats_deleted
 returns-clause-floats_deleted c = λ at goal p q v h. kept-floats_deleted c.args.bytes.now at goal p q v h
+
+pub returns-clause-improved : goal.returns-clause-improved
+returns-clause-improved c = λ at k prove goal p q f v h. kept-improved c.args.bytes.now at prove goal p q k f v h
+
+pub returns-clause-all_improved : goal.returns-clause-all_improved
+returns-clause-all_improved c = λ at prove goal p q f v h. kept-all_improved c.args.bytes.now at prove goal p q f v h

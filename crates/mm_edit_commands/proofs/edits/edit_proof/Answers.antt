@@ -17,14 +17,14 @@ end_edit-requires-clause-own g c =
     let p = c.proof.inside in
     let h : IsOpenIn c.args.database.now (seen_as p.theorem.0 p.tree p.history p.changed) = subst (IsOpenIn c.args.database.now) (sym c.proof.view_is) c.requires.held in
     own-valid c.args.database.now p.theorem.0 (statement_of c.args.database.now p.theorem.0) c.edit_tree.new.tree.proof h.own
-    (edit_keeps (meaning_of c.args.command) c.args.settings.now c.args.database.now p.theorem.0 p.tree.proof c.edit_tree.new.tree.proof h.valid c.in-Ok.ensures.edited)
+    (edit_keeps (meaning_of c.args.command) c.args.settings.now c.args.database.now p.theorem.0 p.tree.proof c.edit_tree.new.tree.proof h.own h.theorem h.valid c.in-Ok.ensures.edited)
 
 pub end_edit-requires-clause-few : goal.end_edit-requires-clause-few
 end_edit-requires-clause-few g c =
     let p = c.proof.inside in
     let h : IsOpenIn c.args.database.now (seen_as p.theorem.0 p.tree p.history p.changed) = subst (IsOpenIn c.args.database.now) (sym c.proof.view_is) c.requires.held in
     let valid : IsProofOf c.args.database.now p.theorem.0 c.edit_tree.new.tree.proof
-    = edit_keeps (meaning_of c.args.command) c.args.settings.now c.args.database.now p.theorem.0 p.tree.proof c.edit_tree.new.tree.proof h.valid c.in-Ok.ensures.edited in
+    = edit_keeps (meaning_of c.args.command) c.args.settings.now c.args.database.now p.theorem.0 p.tree.proof c.edit_tree.new.tree.proof h.own h.theorem h.valid c.in-Ok.ensures.edited in
     valid.few
 
 pub returns-in-Err : goal.returns-in-Err

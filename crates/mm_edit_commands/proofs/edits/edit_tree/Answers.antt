@@ -12,3 +12,7 @@ returns-in-UnifyStep-clause-edited g c = rw c.in-UnifyStep.is c.unify_step.ensur
 pub returns-in-Replace-clause-edited : goal.returns-in-Replace-clause-edited
 unfolding edit_of
 returns-in-Replace-clause-edited g c = rw c.in-Replace.is c.replace.ensures.edited
+
+pub returns-in-Improve-clause-edited : goal.returns-in-Improve-clause-edited
+unfolding edit_of
+returns-in-Improve-clause-edited g c = rw c.in-Improve.is c.improve_step.ensures.edited

@@ -1,14 +1,12 @@
-use Rattle.std.proofs.Common.{◌<◌, ℕ, Bool, List, [], length, if◌then◌else◌, sym, ◌∙◌, ap, subst}
-use Rattle.std.specs.List.{All}
-use Rattle.mm_scope.specs.Contents.{labels_of, active_at}
-use Rattle.mm_improve.proofs.Active.{active_own}
+use Rattle.std.proofs.Common.{◌≡◌, IfOk, Result, Ok, Err, ◌∙◌}
+use Rattle.mm_improve.specs.Grammars.{grammar_of}
+use Rattle.mm_improve.specs.Searches.{terms}
+use Rattle.mm_improve.proofs.NarrowCodes.{all_taken}
 use Rattle.mm_improve.proofs.database.rules.Goals as goal
 
-pub hypotheses-requires : goal.hypotheses-requires
-hypotheses-requires c =
-    let bytes : List ℕ = c.args.db.now in
-    let at : ℕ = c.args.search.at.0 in
-    let active = ap (λ (b : Bool). if b then [] else active_at bytes at) c.requires.assertion in
-    subst (λ (xs : List ℕ). All (λ m. m < length (labels_of bytes)) xs)
-    (sym (c.as_slice.ensures.value ∙ c.in_ok-ids.ensures ∙ c.frame.ensures.active ∙ active))
-    (active_own bytes at c.requires.own)
+pub returns : goal.returns
+returns c = same (all_taken c.args.db.now (grammar_of (terms c.args.db.now c.args.search))) c.rules_for.result c.rules_for.ensures
+  where
+    same : {A E : Type 0} {a b : A} → a ≡ b → (x : Result A E) → IfOk x (λ y. y ≡ a) → IfOk x (λ y. y ≡ b)
+    same e (Ok y) h = h ∙ e
+    same e (Err f) h = h

@@ -8,5 +8,5 @@ use Rattle.mm_improve.proofs.tracing.steps_back.Given as goal
 abbrev pub invariant-loop : goal.invariant-loop
 invariant-loop l = record {
   long : length l.parts.items ≡ l.counter;
-  left : AreLeft (terms l.db l.search) (rank_limit l.db (l.fn.code ∷ l.text)) l.text (whole l.fn.code l.text) l.stack.items l.parts.items;
+  left : AreLeft (terms l.db l.search) (rank_limit l.db (l.fn.code ∷ l.text)) l.fn.code l.text (whole l.fn.code l.text) l.stack.items l.parts.items;
 }

@@ -1,0 +1,12 @@
+pub mod Symbols
+pub mod Firsts
+pub mod Ranks
+pub mod Settling
+pub mod Parts
+pub mod Nexts
+pub mod Walks
+pub mod Uses
+pub mod Waiting
+pub mod Stated
+pub mod Idle
+pub mod Parting

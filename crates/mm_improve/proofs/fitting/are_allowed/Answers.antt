@@ -1,6 +1,0 @@
-use Rattle.mm_improve.specs.Charts.{goals_of}
-use Rattle.mm_improve.proofs.Parting.{nothing_forbidden}
-use Rattle.mm_improve.proofs.fitting.are_allowed.Goals as goal
-
-pub returns-in-None : goal.returns-in-None
-returns-in-None c = nothing_forbidden c.args.brackets.now (goals_of c.args.text.now c.args.parts.now) c.in-None.is

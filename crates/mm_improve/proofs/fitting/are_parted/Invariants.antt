@@ -1,6 +1,0 @@
-use Rattle.std.proofs.Common.{◌≡◌, drop}
-use Rattle.mm_improve.specs.Assertions.{are_parted}
-use Rattle.mm_improve.proofs.fitting.are_parted.Given as goal
-
-abbrev pub invariant-loop-symbol : goal.invariant-loop-symbol
-invariant-loop-symbol l = are_parted l.groups l.one l.other ≡ are_parted l.groups (drop l.symbol-index l.one) l.other
