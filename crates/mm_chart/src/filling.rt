@@ -15,7 +15,7 @@ use mm_subst::{Memory, WSym};
 use std::alloc::Global;
 
 /// Whether two strings are the same.
-fn same_string(one: &[WSym], other: &[WSym]) -> bool
+pub fn same_string(one: &[WSym], other: &[WSym]) -> bool
     ensures { result ≡ same_string one.now other.now }
 {
     if one.len() != other.len() {

@@ -8,7 +8,7 @@ mod reach;
 mod search;
 mod table;
 
-pub use filling::chart;
+pub use filling::{chart, same_string};
 pub use fitting::{are_parted, value_of};
 pub use grammar::{Hypothesis, Item, Pattern, Rules};
 pub use table::{Entry, Part, Rows};

@@ -1,6 +1,6 @@
 -- What the parts of IMPROVE answer, and how the steps that are left look.
 use Rattle.std.proofs.Common.{zero, suc, ◌≡◌, ℕ, ◌+◌, ◌-◌, ◌≤◌, ◌<◌, Bool, true, false, List, [], ◌∷◌, ◌++◌, map, length, take, get_or, Option, None, Some, is_some, nat_lt, ◌==◌, is_none, not, ◌&&◌, if◌then◌else◌, refl, sym, ◌∙◌, ap, subst, arith, length-append, take_all}
-use Rattle.std.specs.Prelude.{Result, Ok, Err}
+use Rattle.std.specs.Prelude.{Result, Ok, Err, IfSome}
 use Rattle.std.specs.List.{range_with_len, count_by}
 use Rattle.std.proofs.lemmas.List.{get_or-append_right, get_or-map, length-map}
 use Rattle.std.proofs.lemmas.List.Sums.{count_by_more_yes, count_by_more_no, sum_by-take-le}
@@ -12,7 +12,7 @@ use Rattle.mm_plain.specs.declared.plain.Plain.{Plain}
 use Rattle.mm_plain.specs.Grafts.{grafted_in}
 use Rattle.mm_plain.specs.Shape.{Proof, put, size_of, height_of, step_at, steps_of, target_of}
 use Rattle.mm_plain.specs.Sources.{label_of}
-use Rattle.mm_plain.specs.Valid.{most_steps, most_levels}
+use Rattle.mm_plain.specs.Valid.{IsValid, most_steps, most_levels}
 use Rattle.mm_plain.proofs.Equations.{length-steps_of, size_of-pos}
 use Rattle.mm_plain.proofs.Puts.{IsReplaced, Own, own_of, steps-put}
 use Rattle.mm_plain.proofs.Read.{unlabelled-one}
@@ -21,13 +21,17 @@ use Rattle.mm_tree.specs.Placed.{IsPlaced}
 use Rattle.mm_tree.specs.Trees.{State}
 use Rattle.mm_tree.specs.declared.fault.GraftFault.{GraftFault}
 use Rattle.mm_tree.specs.declared.fault.GraftFault.TheVariants as graft
+use Rattle.mm_improve.specs.Finds.{IsFind}
 use Rattle.mm_improve.specs.Proving.{IsFound}
+use Rattle.mm_improve.specs.declared.database.Search.{Search}
+use Rattle.mm_improve.specs.declared.finds.Find.{Find}
 use Rattle.mm_improve.specs.declared.fault.ImproveFault.{ImproveFault}
 use Rattle.mm_improve.specs.declared.fault.ImproveFault.TheVariants as improve
 use Rattle.mm_edit.specs.Edited.{IsDone, IsDoneTimes, IsFilled, IsFilledTimes, IsRefusal, graft_fault_of, improve_fault_of}
 use Rattle.mm_edit.specs.Improving.{ProofMap, all_filled, all_improved, filled_at, filled_by, filled_in_turn, filled_with, improved, number_after, proof_for, proved_count}
 use Rattle.mm_edit.specs.declared.edit_fault.EditFault.{EditFault}
 use Rattle.mm_edit.specs.declared.edit_fault.EditFault.TheVariants.{NothingChanged}
+use Rattle.mm_edit.specs.Proving.{found_by}
 use Rattle.mm_edit.specs.Steps.{has_step, is_unknown}
 use Rattle.mm_edit.proofs.Improving.{gets, with-is}
 
@@ -86,6 +90,20 @@ not-found found p k improve.Memory h other = absurd (other refl)
 
 pub filled-err : (found : Option Plain) (p now : Proof) (k : ℕ) (r : Result Bool EditFault) (f : EditFault) → r ≡ Err f → IsRefusal (filled_by found p k) f → IsFilled found p k r now
 filled-err found p now k r f e h = subst (λ (x : Result Bool EditFault). IsFilled found p k x now) (sym e) h
+
+-- what was found for a goal, now or before, is its proof
+pub find-so : (bytes : List ℕ) (s now : Search) (depth : ℕ) (goal : List WSym) (f : Find) (o : Option State) → now ≡ s → f.goal ≡ goal → f.depth ≡ depth → f.tree ≡ o → IsFind bytes now f → IsFound (Ok o) (found_by bytes s depth goal)
+find-so bytes s now depth goal f o es eg ed et h =
+    subst (λ (x : Option State). IsFound (Ok x) (found_by bytes s depth goal)) et
+    (subst (λ (t : Search). IsFound (Ok f.tree) (found_by bytes t depth goal)) es
+    (subst (λ (n : ℕ). IsFound (Ok f.tree) (found_by bytes now n goal)) ed
+    (subst (λ (g : List WSym). IsFound (Ok f.tree) (found_by bytes now f.depth g)) eg h.found)))
+
+-- and that is valid
+pub find-valid : (bytes : List ℕ) (s now : Search) (goal : List WSym) (f : Find) (t : State) → now ≡ s → f.goal ≡ goal → f.tree ≡ Some t → IsFind bytes now f → IsValid bytes s.at.0 goal t.proof
+find-valid bytes s now goal f t es eg et h =
+    let v : IsValid bytes now.at.0 f.goal t.proof = subst (λ (o : Option State). IfSome o (λ u. IsValid bytes now.at.0 f.goal u.proof)) et h.valid in
+    subst (λ (x : Search). IsValid bytes x.at.0 goal t.proof) es (subst (λ (g : List WSym). IsValid bytes now.at.0 g t.proof) eg v)
 
 -- the proof of what is found
 pub record IsPart (found : Option Plain) (t : State) : Type 0 where

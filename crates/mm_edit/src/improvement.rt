@@ -72,10 +72,11 @@ fn fill_goal<L: Ledger>(
     ensures ready { IsReady db.now prover.new }
     ensures search { prover.new.search ≡ prover.old.search }
 {
-    match prover.prove(alloc, db, goal, depth, steps)? {
+    let place = prover.prove(alloc, db, goal, depth, steps)?;
+    match prover.tree(place) {
         None => Ok(false),
         Some(part) => {
-            tree.graft(alloc, step, &part, steps)?;
+            tree.graft(alloc, step, part, steps)?;
             Ok(true)
         }
     }

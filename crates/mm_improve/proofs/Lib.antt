@@ -1,3 +1,4 @@
+pub mod FindLemmas
 pub mod Translating
 pub mod Covering
 pub mod Linking

@@ -1,5 +1,5 @@
 -- Found proofs are laid out step by step.
-use Rattle.std.specs.Prelude.{◌≡◌, ◌≤◌, ◌<◌, ◌+◌, ℕ, Bool, true, false, List, [], ◌∷◌, ◌++◌, length, Option, None, Some, IfSome, Result, Ok, Err}
+use Rattle.std.specs.Prelude.{◌≡◌, ◌≤◌, ◌<◌, ◌+◌, ℕ, Bool, true, false, List, [], ◌∷◌, ◌++◌, All, length, Option, None, Some, IfSome, Result, Ok, Err}
 use Rattle.std.specs.List.{sum_by}
 use Rattle.mm_scope.specs.Contents.{labels_of, stated_at}
 use Rattle.mm_stated.specs.Stated.{is_hypothesis}
@@ -8,6 +8,7 @@ use Rattle.mm_plain.specs.Shape.{size_of, height_of}
 use Rattle.mm_plain.specs.Valid.{most_steps}
 use Rattle.mm_tree.specs.Plans.{IsPlan, grove_of}
 use Rattle.mm_tree.specs.declared.plan.Plan.{Plan}
+use Rattle.mm_improve.specs.Finds.{IsFind}
 use Rattle.mm_improve.specs.Grammars.{grammar_of}
 use Rattle.mm_improve.specs.Narrow.{is_taken, narrowed}
 use Rattle.mm_improve.specs.Searches.{terms}
@@ -15,12 +16,14 @@ use Rattle.mm_improve.specs.declared.fault.ImproveFault.{ImproveFault}
 use Rattle.mm_improve.specs.declared.fault.ImproveFault.TheVariants.{TooManySteps, TooDeep, Memory}
 use Rattle.mm_improve.specs.declared.prover.Prover.{Prover}
 
--- what is searched by is the grammar of the theorem: all of it, or what it has for the typecodes of `$f`
+-- what is searched by is the grammar of the theorem: all of it, or what it has for the typecodes of `$f`; and what was found
+-- before is what is defined
 pub record IsReady (bytes : List ℕ) (p : Prover) : Type 0 where
   pub own : p.search.at.0 < length (labels_of bytes)
   pub assertion : is_hypothesis (stated_at bytes p.search.at.0).kind ≡ false
   pub parts : p.parts ≡ narrowed (is_taken bytes true) (grammar_of (terms bytes p.search))
   pub all : IfSome p.all (λ g. g ≡ grammar_of (terms bytes p.search))
+  pub finds : All (IsFind bytes p.search) p.finds.items
 
 -- how many steps the trees of a plan have
 abbrev pub steps_in : Plan → ℕ

@@ -3,6 +3,7 @@ pub mod Ranks
 pub mod Grammars
 pub mod Searches
 pub mod Proving
+pub mod Finds
 pub mod Traces
 pub mod Narrow
 pub mod Laying

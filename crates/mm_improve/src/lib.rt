@@ -6,6 +6,7 @@ mod conclusion;
 mod database;
 mod fault;
 mod finding;
+mod finds;
 mod first_use;
 mod laws;
 mod laying;
@@ -16,6 +17,7 @@ mod tracing;
 
 pub use database::{Search, rules};
 pub use fault::ImproveFault;
+pub use finds::Find;
 pub use laws::{answers_agree, found_proofs_are_proofs, ranks_are_limited, trees_unfold};
 pub use prover::Prover;
 pub use proving::prove_goal;

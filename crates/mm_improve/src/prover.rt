@@ -9,10 +9,12 @@ ghost use Rattle.mm_improve.specs.Laying.{IsReady};
 ghost use Rattle.mm_improve.specs.Searches.{terms};
 
 use crate::database::{Search, is_float_code, rules, rules_for};
+use crate::finds::Find;
 use mm_chart::{Rows, Rules, chart};
 use mm_scope::Database;
 use mm_subst::{Memory, WSym};
 use std::alloc::Global;
+use std::collections::HashMap;
 
 /// What the proofs of goals of a theorem are searched by.
 #[derive(Drop)]
@@ -22,6 +24,10 @@ pub struct Prover {
     pub parts: Rules,
     /// For all goals, once some goal wanted it.
     pub all: Option<Rules>,
+    /// What was found so far.
+    pub finds: Vec<Find>,
+    /// By digests of goals, where it may stand.
+    pub(crate) places: HashMap<u64, usize>,
 }
 
 impl Prover {
@@ -37,6 +43,8 @@ impl Prover {
             search,
             parts,
             all: None,
+            finds: Vec::new(alloc),
+            places: HashMap::new(alloc),
         })
     }
 

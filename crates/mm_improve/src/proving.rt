@@ -1,10 +1,11 @@
 //! The proof of a goal.
 
-ghost use Rattle.std.specs.Prelude.{◌≡◌, ◌<◌, false, IfOk, IfSome, length};
+ghost use Rattle.std.specs.Prelude.{◌≡◌, ◌<◌, false, Err, IfOk, IfSome, length, MatchResult};
 ghost use Rattle.mm_scope.specs.Contents.{labels_of, stated_at};
 ghost use Rattle.mm_stated.specs.Stated.{is_hypothesis};
 ghost use Rattle.mm_plain.specs.Valid.{IsString, IsValid, first_setting};
 ghost use Rattle.mm_tree.specs.Versions.{HasNoDrafts};
+ghost use Rattle.mm_improve.specs.Finds.{IsFindOf};
 ghost use Rattle.mm_improve.specs.Laying.{IsReady};
 ghost use Rattle.mm_improve.specs.Proving.{IsFound, proof_of};
 ghost use Rattle.mm_improve.specs.Searches.{terms};
@@ -12,6 +13,7 @@ ghost use Rattle.mm_improve.specs.Searches.{terms};
 use crate::database::{Search, is_float_code};
 use crate::fault::ImproveFault;
 use crate::finding::{found_size, lay_found};
+use crate::finds::Find;
 use crate::laws::found_proofs_are_proofs;
 use crate::prover::Prover;
 use mm_base::Steps;
@@ -30,11 +32,37 @@ fn wants_all(db: &Database, goal: &WStr, depth: u32) -> bool {
 }
 
 impl Prover {
-    /// The proof of a goal without work variables at a depth, where there is one. No work variable is drawn over it.
+    /// Finds the proof of a goal without work variables at a depth, where there is one, and answers the index of what was
+    /// found. No work variable is drawn over it. A goal for which something was found before isn't searched for again.
     ///
     /// # Errors
     /// `TooManySteps` where it has more than 1,000,000 steps, or else `TooDeep` where it has more than 2,000 levels.
     pub fn prove<L: Ledger>(
+        &mut self,
+        alloc: Global,
+        db: &Database,
+        goal: &WStr,
+        depth: u32,
+        steps: &mut Steps<L>,
+    ) -> Result<usize, ImproveFault>
+        requires ready { IsReady db.now self.old }
+        requires string { IsString (first_setting db.now self.old.search.at.0) goal.now }
+        ensures found { MatchResult result (IsFindOf self.new goal.now depth) (λ e. IsFound (Err e) (proof_of (terms db.now self.old.search) depth goal.now)) }
+        ensures exists { IfOk result (λ place. place < length self.new.finds.items) }
+        ensures ready { IsReady db.now self.new }
+        ensures search { self.new.search ≡ self.old.search }
+    {
+        if let Some(place) = self.place(goal, depth) {
+            return Ok(place);
+        }
+        let tree = self.search_for(alloc, db, goal, depth, steps)?;
+        let goal = goal.copy(alloc)?;
+        let place = self.keep(Find { goal, depth, tree })?;
+        Ok(place)
+    }
+
+    /// The proof of a goal, which is searched for.
+    fn search_for<L: Ledger>(
         &mut self,
         alloc: Global,
         db: &Database,
@@ -105,5 +133,5 @@ pub fn prove_goal<L: Ledger>(
     ensures valid { IfOk result (λ o. IfSome o (λ t. IsValid db.now search.at.0 goal.now t.proof)) }
 {
     let mut prover = Prover::new(alloc, db, search)?;
-    prover.prove(alloc, db, goal, depth, steps)
+    prover.search_for(alloc, db, goal, depth, steps)
 }

@@ -57,7 +57,7 @@ pub fn values_of(
     requires { AreWithin target.now path.now }
     ensures { IfOk result (λ v. v ≡ restricted (parts_of target.now path.now) numbers.now) }
 {
-    let mut each = Vec::new(alloc);
+    let mut each = Vec::with_capacity(alloc, numbers.len())?;
     for number in numbers {
         let value = own_value(alloc, *number, target, path)?;
         each.push(Value {

@@ -22,7 +22,7 @@ pub fn substitutions(alloc: Global, found: Vec<Values>) -> Result<Vec<Subst>, Me
     requires { All HasDistinctKeys found.items }
     ensures { IfOk result (λ us. us.items ≡ found.items) }
 {
-    let mut out = Vec::new(alloc);
+    let mut out = Vec::with_capacity(alloc, found.len())?;
     for values in found {
         out.push(substitution(alloc, values)?)?;
     }

@@ -13,7 +13,6 @@ use crate::values::{Value, Values};
 use mm_subst::{Brackets, MOST_SYMBOLS, Memory, WStr, WSym};
 use std::alloc::Global;
 use std::marker::Model;
-use std::slice;
 
 /// A node that waits to be visited.
 #[derive(Debug, Drop)]
@@ -73,24 +72,26 @@ fn must_fall_short(short: &[WSym], long: &[WSym]) -> bool
     occurs_at_most(short, long) && plain_symbols(short) < plain_symbols(long)
 }
 
-/// What stands for a symbol where `x` is replaced by `w`.
-fn value<'a>(x: WSym, w: &'a [WSym], symbol: &'a WSym) -> &'a [WSym]
-    ensures { result.now ≡ value_of ((x, w.now) ∷ []) symbol.now }
+/// Appends what stands for a symbol where `x` is replaced by `w`.
+fn push_value(out: &mut Vec<WSym>, x: WSym, w: &[WSym], symbol: WSym) -> Result<(), Memory>
+    ensures { IfOk result (λ _. out.new.items ≡ out.old.items ++ value_of ((x, w.now) ∷ []) symbol) }
 {
-    if x.is_same(*symbol) {
-        w
+    if x.is_same(symbol) {
+        out.extend_from_slice(w)?;
     } else {
-        slice::from_ref(symbol)
+        out.push(symbol)?;
     }
+    Ok(())
 }
 
 /// A string with a work variable replaced.
 fn replaced(alloc: Global, x: WSym, w: &[WSym], s: &[WSym]) -> Result<WStr, Memory>
     ensures { IfOk result (λ t. t ≡ applied ((x, w.now) ∷ []) s.now) }
 {
-    let mut out = Vec::new(alloc);
+    // In most strings the variable stands once.
+    let mut out = Vec::with_capacity(alloc, s.len().saturating_add(w.len()))?;
     for symbol in s {
-        out.extend_from_slice(value(x, w, symbol))?;
+        push_value(&mut out, x, w, *symbol)?;
     }
     Ok(WStr::from_vec(out))
 }
@@ -99,7 +100,7 @@ fn replaced(alloc: Global, x: WSym, w: &[WSym], s: &[WSym]) -> Result<WStr, Memo
 fn later_values(alloc: Global, x: WSym, w: &[WSym], values: &Values) -> Result<Values, Memory>
     ensures { IfOk result (λ t. t ≡ with_values ((x, w.now) ∷ []) values.now) }
 {
-    let mut each = Vec::new(alloc);
+    let mut each = Vec::with_capacity(alloc, values.each.len())?;
     for value in &values.each {
         each.push(Value {
             number: value.number,
