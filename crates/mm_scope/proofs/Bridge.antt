@@ -190,6 +190,9 @@ module _ (P : List Event → Type 0) (nothing : P []) (reached : (past : List Ev
       at_all (database_of bytes) (after_all (read_from put look_back text nothing_read (pieces_of text))
       (fine_read Good (λ s c g. g) (λ s g. g) kept text (pieces_of text) nothing_read good_nothing) (position is_bad (judged bytes)) (is_long bytes) (open_in (pieces_of text)))
 
+pub statements_sound : (bytes : List ℕ) → SoundAt (events_of bytes) (context_at (events_of bytes))
+statements_sound = of_each (λ past. SoundAt past (context_at past)) sound_nothing (λ past h. h.sound)
+
 pub labels_differ : (bytes : List ℕ) → LabelsDiffer (events_of bytes)
 labels_differ = of_each LabelsDiffer tt (λ past h. h.differ)
 

@@ -23,9 +23,12 @@ mod Held
 mod Kept
 mod Ordered
 mod Placed
+pub mod Following
 pub mod Bridge
 mod Lawful
+mod Unplaced
 mod Tabled
+pub mod Sharing
 mod Long
 mod Described
 mod Phrases

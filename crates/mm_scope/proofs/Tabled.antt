@@ -1,5 +1,6 @@
 -- The tables of a database that was read.
-use Rattle.std.proofs.Common.{◌+◌, ◌≡◌, ◌<◌, ◌≤◌, ℕ, Bool, true, false, List, [], ◌∷◌, Option, None, Some, length, position, slice_get, slice_index, nat_eq, Result, Ok, Err, is_ok, sym, ap, ◌∙◌, subst, arith}
+use Rattle.std.proofs.Common.{◌+◌, ◌≡◌, ◌<◌, ◌≤◌, ℕ, Bool, true, false, List, [], ◌∷◌, Option, None, Some, length, map, position, slice_get, slice_index, nat_eq, Result, Ok, Err, is_ok, refl, sym, ap, ◌∙◌, subst, arith}
+use Rattle.std.proofs.lemmas.Bool.{false≢true}
 use Rattle.std.proofs.lemmas.List.{length-take}
 use Rattle.std.specs.List.{list_any}
 use Rattle.mm_tokens.specs.Bytes.{is_bad}
@@ -11,21 +12,27 @@ use Rattle.mm_scope.specs.Contexts.{Context, context_of, state_of}
 use Rattle.mm_scope.specs.Databases.{nothing_read, unless_open, at_the_end, read_by, database_of}
 use Rattle.mm_scope.specs.Events.{Event, put, symbols, labels, statements, active_hypotheses, active_variables, active_distinct, open_blocks}
 use Rattle.mm_scope.specs.Judged.{most_bytes, is_long, judged, clean, before_bad}
-use Rattle.mm_scope.specs.Keeps.{Keeps, Recalls, KeepsMoments}
+use Rattle.mm_scope.specs.Keeps.{Keeps, Recalls, KeepsMoments, KeepsTables, KeepsPlaces}
 use Rattle.mm_scope.specs.Looks.{look_back, constants}
+use Rattle.mm_scope.specs.Moving.{places_of}
 use Rattle.mm_scope.specs.Reading.{after, read_from}
 use Rattle.mm_scope.specs.Steps.{State}
 use Rattle.mm_scope.specs.Until.{is_active_by}
+use Rattle.mm_scope.specs.declared.database.Tables.{Tables}
 use Rattle.mm_scope.specs.declared.fault.ReadFault.{ReadFault}
 use Rattle.mm_scope.specs.declared.mode.Mode.{Mode}
 use Rattle.mm_scope.specs.declared.mode.Mode.TheVariants as mode
+use Rattle.mm_scope.specs.declared.places.Places.{Places}
 use Rattle.mm_scope.specs.declared.reader.Reader.{Reader}
-use Rattle.mm_scope.proofs.Bridge.{read_matches}
+use Rattle.mm_stated.specs.Statements.{stated}
+use Rattle.mm_stated.specs.Typecodes.{AreTypecodes}
+use Rattle.mm_scope.proofs.Bridge.{read_matches, statements_sound}
 use Rattle.mm_scope.proofs.Held.{Held}
 use Rattle.mm_scope.proofs.Moments.{distinct_moments, distinct_then, hypothesis_moments, hypothesis_then, variable_moments, variable_then, known_moments, known_then}
 use Rattle.mm_scope.proofs.Ordered.{ordered}
 use Rattle.mm_scope.proofs.Placed.{ProofsPlaced, Placed, AllPlaced, placed_read, all_placed}
-use Rattle.mm_scope.proofs.Sound.{StatementSound}
+use Rattle.mm_scope.proofs.Sound.{StatementSound, SoundAt}
+use Rattle.mm_scope.proofs.Unplaced.{placed_once, without_places}
 use Rattle.mm_scope.proofs.Whole.{IfFine, context_at}
 
 -- proofs stand among the bytes
@@ -67,6 +74,35 @@ unfolding database_of
 places bytes past e =
     all_up (length (clean (judged bytes))) (length bytes) past (readable_length bytes) (all_placed (length (clean (judged bytes))) past
     (subst (λ r. IfFine r (ProofsPlaced (length (clean (judged bytes))))) e (read_placed (judged bytes) (is_long bytes))))
+
+ok_events : (r : Result (List Event) ReadFault) → is_ok r ≡ true → r ≡ Ok (events_in r)
+ok_events (Ok past) e = refl
+ok_events (Err x) e = absurd (false≢true e)
+
+read_events : (bytes : List ℕ) → is_read bytes ≡ true → database_of bytes ≡ Ok (events_of bytes)
+unfolding is_read events_of
+read_events bytes e = ok_events (database_of bytes) e
+
+pub statements_counted : (bytes : List ℕ) → length (statements_of bytes) ≡ length (labels_of bytes)
+unfolding statements_of labels_of
+statements_counted bytes = (statements_sound bytes).counted
+
+-- each statement of a database that is read is sound
+pub read_sound : (bytes : List ℕ) → is_read bytes ≡ true → (id : ℕ) → id < length (labels_of bytes) → IsSound bytes id
+unfolding statements_of labels_of
+read_sound bytes read id own =
+    let all : SoundAt (events_of bytes) (context_at (events_of bytes)) = statements_sound bytes in
+    let there : id < length (statements (events_of bytes)) = omega (arith, own, all.counted) in
+    let s : StatementSound (statements (events_of bytes)) id = all.all id there in
+    let p : AllPlaced (length bytes) (statements (events_of bytes)) = places bytes (events_of bytes) (read_events bytes read) in
+    record {
+      earlier = s.earlier;
+      hypotheses = s.hypotheses;
+      stated = s.stated;
+      pair = s.pair;
+      ordered = (p id there).0;
+      within = (p id there).1;
+    }
 
 module _ (bytes : List ℕ) (past : List Event) (e : database_of bytes ≡ Ok past) (c : Context) (same : c ≡ context_at past) (held : Held past) where
   read : is_read bytes ≡ true
@@ -143,26 +179,22 @@ module _ (bytes : List ℕ) (past : List Event) (e : database_of bytes ≡ Ok pa
   until_kept : length c.until ≡ length (labels_of bytes)
   until_kept = ap (λ x. length x.until) same ∙ held.hypotheses.sizes ∙ sym (ap length labels_there)
 
-  counted : length (statements_of bytes) ≡ length (labels_of bytes)
-  counted = ap length statements_there ∙ held.sound.counted ∙ sym (ap length labels_there)
+-- the tables that are kept of a reader
+abbrev tables_with : Reader → List Bool → Tables
+tables_with r typecodes = record {
+  symbols = r.symbols;
+  labels = r.labels;
+  statements = r.statements;
+  until = r.until;
+  partings = r.partings;
+  actives = r.actives;
+  variables = r.variables;
+  known = r.known;
+  typecodes = typecodes;
+}
 
-  sound : (id : ℕ) → id < length (labels_of bytes) → IsSound bytes id
-  sound id small =
-      let inside : id < length (statements past) = omega (arith, small, ap length statements_there, counted) in
-      let s : StatementSound (statements_of bytes) id = subst (λ ss. StatementSound ss id) (sym statements_there) (held.sound.all id inside) in
-      let p : AllPlaced (length bytes) (statements_of bytes) = subst (AllPlaced (length bytes)) (sym statements_there) (places bytes past e) in
-      let there : id < length (statements_of bytes) = omega (arith, small, counted) in
-      record {
-        earlier = s.earlier;
-        hypotheses = s.hypotheses;
-        stated = s.stated;
-        pair = s.pair;
-        ordered = (p id there).0;
-        within = (p id there).1;
-      }
-
--- so a database may keep the tables of the reader
-pub keeps : (bytes : List ℕ) (r : Reader) → tables_of bytes ≡ Ok (state_of r) → Keeps bytes r.symbols r.labels r.statements.items r.until.items
+-- so a database may keep the tables of the reader, and the places of its statements
+keeps : (bytes : List ℕ) (r : Reader) → tables_of bytes ≡ Ok (state_of r) → Keeps bytes r.symbols r.labels r.statements.items r.until.items
 keeps bytes r e =
     let m = read_matches bytes (state_of r) e in
     record {
@@ -171,14 +203,14 @@ keeps bytes r e =
       sizes = sizes bytes m.0 m.1 (context_of r) m.2 m.3;
       constants_kept = constants_kept bytes m.0 m.1 (context_of r) m.2 m.3;
       labels_kept = labels_kept bytes m.0 m.1 (context_of r) m.2 m.3;
-      statements_kept = statements_kept bytes m.0 m.1 (context_of r) m.2 m.3;
+      statements_kept = without_places r.statements.items (statements_of bytes) (statements_kept bytes m.0 m.1 (context_of r) m.2 m.3);
       active = λ id at own small. active bytes m.0 m.1 (context_of r) m.2 m.3 id at small;
       until_kept = until_kept bytes m.0 m.1 (context_of r) m.2 m.3;
-      counted = counted bytes m.0 m.1 (context_of r) m.2 m.3;
-      sound = sound bytes m.0 m.1 (context_of r) m.2 m.3;
+      counted = statements_counted bytes;
+      sound = read_sound bytes (read bytes m.0 m.1 (context_of r) m.2 m.3);
     }
 
-pub keeps_moments : (bytes : List ℕ) (r : Reader) → tables_of bytes ≡ Ok (state_of r) → KeepsMoments bytes r.partings r.actives r.variables r.known.items
+keeps_moments : (bytes : List ℕ) (r : Reader) → tables_of bytes ≡ Ok (state_of r) → KeepsMoments bytes r.partings r.actives r.variables r.known.items
 keeps_moments bytes r e =
     let m = read_matches bytes (state_of r) e in
     record {
@@ -188,3 +220,19 @@ keeps_moments bytes r e =
       counted = known_counted bytes m.0 m.1 (context_of r) m.2 m.3;
       counts = known_counts bytes m.0 m.1 (context_of r) m.2 m.3;
     }
+
+pub keeps_tables : (bytes : List ℕ) (r : Reader) (typecodes : List Bool) → tables_of bytes ≡ Ok (state_of r) → AreTypecodes typecodes (map stated r.statements.items)
+    → KeepsTables bytes (tables_with r typecodes)
+keeps_tables bytes r typecodes e are =
+    let m = read_matches bytes (state_of r) e in
+    record {
+      says = keeps bytes r e;
+      moments = keeps_moments bytes r e;
+      typecodes = subst (AreTypecodes typecodes) (statements_kept bytes m.0 m.1 (context_of r) m.2 m.3) are;
+    }
+
+pub keeps_places : (bytes : List ℕ) (r : Reader) (places : List Places) → tables_of bytes ≡ Ok (state_of r) → places ≡ map (λ s. places_of (stated s)) r.statements.items
+    → KeepsPlaces bytes places
+keeps_places bytes r places e are =
+    let m = read_matches bytes (state_of r) e in
+    are ∙ placed_once r.statements.items ∙ ap (map places_of) (statements_kept bytes m.0 m.1 (context_of r) m.2 m.3)

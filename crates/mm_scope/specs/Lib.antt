@@ -14,3 +14,4 @@ pub mod ByTables
 pub mod Answered
 pub mod Faults
 pub mod Description
+pub mod Moving

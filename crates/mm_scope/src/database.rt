@@ -10,6 +10,8 @@ ghost use Rattle.mm_stated.specs.Typecodes.{AreTypecodes};
 ghost use Rattle.mm_stated.specs.Statements.{stated};
 ghost use Rattle.mm_scope.specs.ByTables.{tables_of};
 ghost use Rattle.mm_scope.specs.Contexts.{state_of};
+ghost use Rattle.mm_scope.specs.Keeps.{KeepsTables};
+ghost use Rattle.mm_scope.specs.Moving.{moved_by, places_of, SaysTheSame};
 ghost use Rattle.mm_scope.specs.Until.{is_before};
 ghost use Rattle.mm_stated.specs.Stated.{is_hypothesis, is_same_kind};
 ghost use Rattle.mm_stated.specs.declared.statement.Kind.TheVariants.{Float};
@@ -17,12 +19,14 @@ ghost use Rattle.mm_stated.specs.declared.statement.Kind.TheVariants.{Float};
 use crate::fault::ReadFault;
 use crate::file::read_file;
 use crate::frame::{Active, ActivePairs, Frame, Ids, Pairs, Symbols};
+use crate::places::{Places, Replacement, move_all, places_among};
 use crate::reader::Reader;
 use mm_stated::{Kind, Statement, ordered_variables, typecodes_of, variables_of};
 use mm_tables::{Declarations, Found, Layers, Marks, Names, Pair, Parted, Partings, SymbolTable};
 use mm_tokens::Span;
 use std::alloc::{AllocError, Global};
 use std::marker::Model;
+use std::rc::Rc;
 
 /// A labelled statement: its place among the labelled statements of a database, counted from 0.
 #[derive(Clone, Copy, Debug, PartialEq, Eq)]
@@ -32,10 +36,10 @@ pub struct StmtId(pub u32);
 #[derive(Clone, Copy, Debug, PartialEq, Eq)]
 pub struct Sym(pub u32);
 
-/// A database that is read. Contracts see its bytes; what it says is a function of these.
+/// What a database says that no place is in: where its proofs and comments stand may change and this stays. The places
+/// that the statements carry are those of the file that was read.
 #[derive(Drop)]
-pub struct Database {
-    bytes: Vec<u8>,
+struct Tables {
     symbols: SymbolTable,
     labels: Names,
     statements: Vec<Statement>,
@@ -47,18 +51,25 @@ pub struct Database {
     typecodes: Marks,
 }
 
+/// A database that is read. Contracts see its bytes; what it says is a function of these. Its tables are shared with the
+/// databases that say the same at other places.
+#[derive(Drop)]
+pub struct Database {
+    bytes: Vec<u8>,
+    tables: Rc<Tables>,
+    places: Vec<Places>,
+}
+
 impl Model for Database {
     ghost use Rattle.std.specs.Prelude.{List, ℕ};
 
     ghost Value = { List ℕ };
 
-    ghost use Rattle.mm_scope.specs.Keeps.{Keeps, KeepsMoments};
-    ghost use Rattle.mm_scope.specs.Contents.{statements_of};
-    ghost use Rattle.mm_stated.specs.Typecodes.{AreTypecodes};
+    ghost use Rattle.mm_scope.specs.Keeps.{KeepsTables, KeepsPlaces};
 
     ghost view = { λ d. d.bytes.items };
 
-    ghost invariant = { λ d. Keeps d.bytes.items d.symbols d.labels d.statements.items d.until.items × KeepsMoments d.bytes.items d.partings d.actives d.variables d.known.items × AreTypecodes d.typecodes (statements_of d.bytes.items) };
+    ghost invariant = { λ d. KeepsTables d.bytes.items d.tables.value × KeepsPlaces d.bytes.items d.places.items };
 }
 
 impl Database {
@@ -67,12 +78,39 @@ impl Database {
         ensures { AnswersRead bytes.items result }
     {
         match read_file(alloc, bytes.as_slice()) {
-            Ok(reader) => match typecodes_of(alloc, reader.statements.as_slice()) {
-                Ok(typecodes) => Ok(database_of(bytes, reader, typecodes)),
+            Ok(reader) => match typecodes_and_places(alloc, reader.statements.as_slice()) {
+                Ok((typecodes, places)) => database_of(alloc, bytes, reader, typecodes, places),
                 Err(_) => Err((bytes, ReadFault::Memory)),
             },
             Err(fault) => Err((bytes, fault)),
         }
+    }
+
+    /// The database of other bytes that say the same, but that each place is moved as a text in place of some bytes moves
+    /// it. Its tables are this one's; so it takes the time of a walk over the statements, and memory for their places.
+    pub fn moved(
+        &self,
+        alloc: Global,
+        bytes: Vec<u8>,
+        by: Replacement,
+    ) -> Result<Database, AllocError>
+        requires { SaysTheSame self.now bytes.items (moved_by by.from by.to by.size) }
+        ensures { IfOk result (λ d. d ≡ bytes.items) }
+    {
+        let places = move_all(alloc, self.places.as_slice(), by)?;
+        let tables = self.tables.clone()?;
+        Ok(Database {
+            bytes,
+            tables,
+            places,
+        })
+    }
+
+    /// What no place is in.
+    fn tables(&self) -> &Tables
+        ensures { KeepsTables self.now result.now }
+    {
+        &self.tables
     }
 
     /// The bytes that were read.
@@ -80,7 +118,7 @@ impl Database {
         ensures value { result.now ≡ self.now }
         ensures read { is_read self.now ≡ true }
     {
-        let _ = &self.labels;
+        let _ = &self.tables;
         self.bytes.as_slice()
     }
 
@@ -96,15 +134,16 @@ impl Database {
         ensures labels { result ≡ length (labels_of self.now) }
         ensures statements { result ≡ length (statements_of self.now) }
     {
-        self.labels.len() as u32
+        self.tables().labels.len() as u32
     }
 
     /// How many labelled statements of a kind there are.
     pub fn count_of(&self, kind: Kind) -> u32
         ensures { result ≡ count_kind kind self.now }
     {
-        let _ = self.labels.len();
-        count_kind(self.statements.as_slice(), kind) as u32
+        let tables = self.tables();
+        let _ = tables.labels.len();
+        count_kind(tables.statements.as_slice(), kind) as u32
     }
 
     /// The statement with a label; `None` where there is none.
@@ -112,7 +151,7 @@ impl Database {
         ensures value { option_map (λ id. id.0) result ≡ find_label self.now label.now }
         ensures own { IfSome result (λ id. id.0 < length (labels_of self.now)) }
     {
-        self.labels.find(label).map(StmtId)
+        self.tables().labels.find(label).map(StmtId)
     }
 
     /// The label of a statement.
@@ -120,15 +159,28 @@ impl Database {
         requires { id.0 < length (labels_of self.now) }
         ensures { slice_get (labels_of self.now) id.0 ≡ Some result.now }
     {
-        self.labels.text(id.0 as usize)
+        self.tables().labels.text(id.0 as usize)
     }
 
-    pub(crate) fn statement(&self, id: StmtId) -> &Statement
+    /// A statement, at whatever places.
+    fn statement(&self, id: StmtId) -> &Statement
         requires { id.0 < length (labels_of self.now) }
-        ensures value { stated result.now ≡ stated_at self.now id.0 }
+        ensures kind { result.now.kind ≡ (stated_at self.now id.0).kind }
+        ensures symbols { result.now.symbols.items ≡ (stated_at self.now id.0).symbols }
+        ensures mandatory { result.now.mandatory.items ≡ (stated_at self.now id.0).mandatory }
+        ensures pairs { result.now.pairs.items ≡ (stated_at self.now id.0).pairs }
         ensures sound { IsSound self.now id.0 }
     {
-        &self.statements[id.0 as usize]
+        &self.tables().statements[id.0 as usize]
+    }
+
+    /// Where a statement's proof stands, and the comment that describes it.
+    pub(crate) fn places(&self, id: StmtId) -> Places
+        requires { id.0 < length (labels_of self.now) }
+        ensures value { result ≡ places_of (stated_at self.now id.0) }
+        ensures sound { IsSound self.now id.0 }
+    {
+        self.places[id.0 as usize]
     }
 
     /// The kind of a statement.
@@ -146,11 +198,11 @@ impl Database {
         ensures ordered { IfSome result (λ span. span.start ≤ span.end) }
         ensures within { IfSome result (λ span. span.end ≤ length self.now) }
     {
-        let statement = self.statement(id);
-        match statement.kind {
+        let places = self.places(id);
+        match self.kind(id) {
             Kind::Theorem => Some(Span {
-                start: statement.from,
-                end: statement.to,
+                start: places.from,
+                end: places.to,
             }),
             _ => None,
         }
@@ -194,7 +246,7 @@ impl Database {
     {
         let trail = match self.kind(id) {
             Kind::Float | Kind::Essential => None,
-            Kind::Axiom | Kind::Theorem => Some(self.actives.at(id.0)),
+            Kind::Axiom | Kind::Theorem => Some(self.tables().actives.at(id.0)),
         };
         Active { trail }
     }
@@ -206,14 +258,14 @@ impl Database {
         requires at { at.0 < length (labels_of self.now) }
         ensures { result ≡ list_any (λ n. hypothesis.0 == n) (active_at self.now at.0) }
     {
-        hypothesis.0 < at.0 && is_before(at.0, self.until[hypothesis.0 as usize])
+        hypothesis.0 < at.0 && is_before(at.0, self.tables().until[hypothesis.0 as usize])
     }
 
     /// How many symbols were ever declared.
     pub fn symbols(&self) -> u32
         ensures { result ≡ length (symbols_of self.now) }
     {
-        self.symbols.names().len() as u32
+        self.tables().symbols.names().len() as u32
     }
 
     /// The text of a symbol.
@@ -221,7 +273,7 @@ impl Database {
         requires { symbol.0 < length (symbols_of self.now) }
         ensures { slice_get (symbols_of self.now) symbol.0 ≡ Some result.now }
     {
-        self.symbols.names().text(symbol.0 as usize)
+        self.tables().symbols.names().text(symbol.0 as usize)
     }
 
     /// The symbol with a text, active or not; `None` where no symbol has it.
@@ -229,21 +281,21 @@ impl Database {
         ensures value { option_map (λ s. s.0) result ≡ position (bytes_eq text.now) (symbols_of self.now) }
         ensures own { IfSome result (λ s. s.0 < length (symbols_of self.now)) }
     {
-        self.symbols.names().find(text).map(Sym)
+        self.tables().symbols.names().find(text).map(Sym)
     }
 
     /// Whether a symbol is a variable, and no constant.
     pub fn is_variable(&self, symbol: Sym) -> bool
         ensures { result ≡ is_variable_of self.now symbol.0 }
     {
-        !self.symbols.standing(symbol.0).constant
+        !self.tables().symbols.standing(symbol.0).constant
     }
 
     /// Whether a symbol is the typecode of some `$f`.
     pub fn typecode_of_float(&self, symbol: Sym) -> bool
         ensures { result ≡ is_typecode_of self.now symbol.0 }
     {
-        self.typecodes.is_marked(symbol.0)
+        self.tables().typecodes.is_marked(symbol.0)
     }
 
     /// Whether what was found of a text was known before a statement, and is a constant or a variable that is active there.
@@ -251,8 +303,9 @@ impl Database {
         requires { at.0 < length (labels_of self.now) }
         ensures { result ≡ is_active_number self.now at.0 found.number found.standing.constant }
     {
-        found.number < self.known[at.0 as usize]
-            && (found.standing.constant || self.variables.was_in_force(at.0, found.number))
+        let tables = self.tables();
+        found.number < tables.known[at.0 as usize]
+            && (found.standing.constant || tables.variables.was_in_force(at.0, found.number))
     }
 
     /// The symbol with a text; `None` where no symbol with it is active at a statement: a constant is from its declaration
@@ -263,7 +316,7 @@ impl Database {
         ensures value { option_map (λ s. s.0) result ≡ active_symbol_at self.now at.0 text.now }
         ensures own { IfSome result (λ s. s.0 < length (symbols_of self.now)) }
     {
-        let found = self.symbols.find(text);
+        let found = self.tables().symbols.find(text);
         if self.is_active_symbol(at, found) {
             Some(Sym(found.number))
         } else {
@@ -276,7 +329,7 @@ impl Database {
         requires { id.0 < length (labels_of self.now) }
         ensures { IfOk result (λ p. p ≡ distinct_at self.now id.0) }
     {
-        self.partings.at(id.0).to_parted(alloc)
+        self.tables().partings.at(id.0).to_parted(alloc)
     }
 
     /// The variables that are active at a statement, in the order of its pairs.
@@ -284,9 +337,10 @@ impl Database {
         requires { id.0 < length (labels_of self.now) }
         ensures { IfOk result (λ v. v.items ≡ ordered_at self.now id.0) }
     {
-        let hypotheses = self.actives.at(id.0).to_vec(alloc)?;
-        let floated = variables_of(alloc, self.statements.as_slice(), hypotheses.as_slice())?;
-        let active = self.variables.at(id.0).to_vec(alloc)?;
+        let tables = self.tables();
+        let hypotheses = tables.actives.at(id.0).to_vec(alloc)?;
+        let floated = variables_of(alloc, tables.statements.as_slice(), hypotheses.as_slice())?;
+        let active = tables.variables.at(id.0).to_vec(alloc)?;
         ordered_variables(alloc, floated.as_slice(), active.as_slice(), self.symbols())
     }
 
@@ -306,11 +360,31 @@ impl Database {
     }
 }
 
-/// The database of what was read of the bytes.
-fn database_of(bytes: Vec<u8>, reader: Reader, typecodes: Marks) -> Database
+/// Marks on the symbols that are the typecode of some `$f`, and the places of the statements.
+fn typecodes_and_places(
+    alloc: Global,
+    statements: &[Statement],
+) -> Result<(Marks, Vec<Places>), AllocError>
+    ensures typecodes { IfOk result (λ p. AreTypecodes p.0 (map stated statements.now)) }
+    ensures places { IfOk result (λ p. p.1.items ≡ map (λ s. places_of (stated s)) statements.now) }
+{
+    let typecodes = typecodes_of(alloc, statements)?;
+    let places = places_among(alloc, statements)?;
+    Ok((typecodes, places))
+}
+
+/// The database of what was read of the bytes, or the bytes for want of memory.
+fn database_of(
+    alloc: Global,
+    bytes: Vec<u8>,
+    reader: Reader,
+    typecodes: Marks,
+    places: Vec<Places>,
+) -> Result<Database, (Vec<u8>, ReadFault)>
     requires tables { tables_of bytes.items ≡ Ok (state_of reader) }
     requires typecodes { AreTypecodes typecodes (map stated reader.statements.items) }
-    ensures { result ≡ bytes.items }
+    requires places { places.items ≡ map (λ s. places_of (stated s)) reader.statements.items }
+    ensures { AnswersRead bytes.items result }
 {
     let Reader {
         symbols,
@@ -323,8 +397,7 @@ fn database_of(bytes: Vec<u8>, reader: Reader, typecodes: Marks) -> Database
         known,
         ..
     } = reader;
-    Database {
-        bytes,
+    let tables = Tables {
         symbols,
         labels,
         statements,
@@ -334,6 +407,14 @@ fn database_of(bytes: Vec<u8>, reader: Reader, typecodes: Marks) -> Database
         variables,
         known,
         typecodes,
+    };
+    match Rc::new(alloc, tables) {
+        Ok(tables) => Ok(Database {
+            bytes,
+            tables,
+            places,
+        }),
+        Err(_) => Err((bytes, ReadFault::Memory)),
     }
 }
 

@@ -26,7 +26,7 @@ impl Database {
         ensures room { IfSome result (λ comment. comment.start + 4 ≤ comment.end) }
         ensures within { IfSome result (λ comment. comment.end ≤ length self.now) }
     {
-        self.statement(id).described
+        self.places(id).described
     }
 
     /// The description of a statement: the place of the content, between `$(` and `$)`, of the last comment between

@@ -11,6 +11,7 @@ mod file;
 mod frame;
 mod laws;
 mod mode;
+mod places;
 mod reader;
 mod reading;
 
@@ -23,4 +24,5 @@ pub use laws::{
 };
 pub use mm_stated::Kind;
 pub use mm_tokens::white_space_folds;
+pub use places::Replacement;
 pub use reader::{MOST_LABEL, MOST_SYMBOLS};

@@ -5,8 +5,8 @@ use Rattle.mm_tokens.specs.Pieces.{pieces_of}
 use Rattle.mm_scope.specs.Contents.{is_read, events_in, events_of, labels_of, symbols_of, statements_of, stated_at, past_before, active_at, variables_at, distinct_at, is_variable_of, symbol_by, active_symbol_at, active_of, active_pairs_of, ordered_at, is_typecode_of}
 use Rattle.mm_stated.specs.Ordered.{ordered_variables}
 use Rattle.mm_scope.specs.Databases.{database_of}
-use Rattle.mm_scope.specs.Events.{labels, symbols, statements, active_hypotheses, active_variables, active_distinct}
-use Rattle.mm_scope.specs.Looks.{constants, look_back}
+use Rattle.mm_scope.specs.Looks.{look_back}
+use Rattle.mm_scope.specs.Moving.{SaysTheSame}
 use Rattle.mm_stated.specs.Mandatory.{statement_at, variables_of}
 use Rattle.mm_tables.specs.Distinct.{pairs_among}
 use Rattle.mm_stated.specs.Stated.{Stated, no_statement, is_hypothesis, typecode_of}
@@ -22,7 +22,8 @@ use Rattle.mm_splice.specs.Keeping.{proof_at, description_text, KeepsTheRest}
 use Rattle.mm_splice.specs.Moved.{move_span, move_event, move_stated}
 use Rattle.mm_splice.specs.Splicing.{spliced, is_proof_text, moved}
 use Rattle.mm_splice.proofs.Bytes.{IsText, is_text, low_moved, high_moved}
-use Rattle.mm_splice.proofs.Following.{labels_moved, symbols_moved, statements_moved, before_moved, hypotheses_same, variables_same, groups_same, constants_moved, look_back_moved, floated_moved, typecodes_moved}
+use Rattle.mm_scope.proofs.Following.{look_back_moved, floated_moved}
+use Rattle.mm_scope.proofs.Sharing.{first_stays, labels_same, symbols_same, constants_same, statements_same, before_same, active_same, variables_at_same, distinct_same, typecodes_same}
 use Rattle.mm_splice.proofs.Gluing.{apart, range_head, range_tail, range_text, from_stays, to_moves}
 use Rattle.mm_splice.proofs.Parts.{AreEnded}
 use Rattle.mm_splice.proofs.Placing.{read_events, whole_read, all_in_order, pieces_end, proof_stands, proof_within, proof_precedes, proofs_in_order}
@@ -83,48 +84,31 @@ module _ (bytes : List ℕ) (id : ℕ) (text : List ℕ) (read : is_read bytes �
   unfolding events_of
   events = ap events_in database
 
-  labels_same : labels_of new ≡ labels_of bytes
-  unfolding labels_of
-  labels_same = ap labels events ∙ labels_moved f (events_of bytes)
-
-  symbols_same : symbols_of new ≡ symbols_of bytes
-  unfolding symbols_of
-  symbols_same = ap symbols events ∙ symbols_moved f (events_of bytes)
-
   nought : f 0 ≡ 0
-  nought = low_moved from to (length text) 0 (omega arith)
+  nought = first_stays from to (length text)
+
+  says : SaysTheSame bytes new f
+  says = record { read = read_new; events_kept = events }
 
   none_stays : move_stated f no_statement ≡ no_statement
   none_stays = rw nought refl
 
   stated_same : (j : ℕ) → stated_at new j ≡ move_stated f (stated_at bytes j)
-  unfolding statements_of
   stated_same j =
-      ap (λ past. statement_at (statements past) j) events
-      ∙ ap (λ ss. statement_at ss j) (statements_moved f nought (events_of bytes))
-      ∙ get_map (move_stated f) no_statement none_stays (statements (events_of bytes)) j
-
-  before : (j : ℕ) → past_before j (events_of new) ≡ map (move_event f) (past_before j (events_of bytes))
-  before j = ap (past_before j) events ∙ before_moved f j (events_of bytes)
+      ap (λ ss. statement_at ss j) (statements_same bytes new f nought says)
+      ∙ get_map (move_stated f) no_statement none_stays (statements_of bytes) j
 
   hypotheses : (j : ℕ) → active_at new j ≡ active_at bytes j
-  unfolding active_at
-  hypotheses j = ap active_hypotheses (before j) ∙ hypotheses_same f (past_before j (events_of bytes))
+  hypotheses = active_same bytes new f nought says
 
   variables : (j : ℕ) → variables_at new j ≡ variables_at bytes j
-  unfolding variables_at
-  variables j = ap active_variables (before j) ∙ variables_same f (past_before j (events_of bytes))
+  variables = variables_at_same bytes new f nought says
 
   groups : (j : ℕ) → distinct_at new j ≡ distinct_at bytes j
-  unfolding distinct_at
-  groups j = ap active_distinct (before j) ∙ groups_same f (past_before j (events_of bytes))
+  groups = distinct_same bytes new f nought says
 
-  constants_same : (s : ℕ) → is_variable_of new s ≡ is_variable_of bytes s
-  constants_same s = ap (λ past. not (list_any (λ n. nat_eq s n) (constants past))) events ∙ ap (λ ns. not (list_any (λ n. nat_eq s n) ns)) (constants_moved f (events_of bytes))
-
-  stated_all : statements_of new ≡ map (move_stated f) (statements_of bytes)
-  unfolding statements_of
-  stated_all = ap statements events ∙ statements_moved f nought (events_of bytes)
+  variables_stay : (s : ℕ) → is_variable_of new s ≡ is_variable_of bytes s
+  variables_stay s = ap (λ ns. not (list_any (λ n. nat_eq s n) ns)) (constants_same bytes new f nought says)
 
   kinds : (j : ℕ) → (stated_at new j).kind ≡ (stated_at bytes j).kind
   kinds j = ap (λ s. s.kind) (stated_same j)
@@ -135,7 +119,7 @@ module _ (bytes : List ℕ) (id : ℕ) (text : List ℕ) (read : is_read bytes �
 
   floated : (j : ℕ) → variables_of (statements_of new) (active_at new j) ≡ variables_of (statements_of bytes) (active_at bytes j)
   floated j =
-      ap (λ ss. variables_of ss (active_at new j)) stated_all
+      ap (λ ss. variables_of ss (active_at new j)) (statements_same bytes new f nought says)
       ∙ ap (variables_of (map (move_stated f) (statements_of bytes))) (hypotheses j)
       ∙ floated_moved f (statements_of bytes) (active_at bytes j)
 
@@ -143,7 +127,7 @@ module _ (bytes : List ℕ) (id : ℕ) (text : List ℕ) (read : is_read bytes �
   ordered j =
       ap (λ vs. ordered_variables vs (variables_at new j) (length (symbols_of new))) (floated j)
       ∙ ap (λ vs. ordered_variables (variables_of (statements_of bytes) (active_at bytes j)) vs (length (symbols_of new))) (variables j)
-      ∙ ap (λ ss. ordered_variables (variables_of (statements_of bytes) (active_at bytes j)) (variables_at bytes j) (length ss)) symbols_same
+      ∙ ap (λ ss. ordered_variables (variables_of (statements_of bytes) (active_at bytes j)) (variables_at bytes j) (length ss)) (symbols_same bytes new f nought says)
 
   active_pairs : (j : ℕ) → active_pairs_of new j ≡ active_pairs_of bytes j
   active_pairs j =
@@ -152,13 +136,11 @@ module _ (bytes : List ℕ) (id : ℕ) (text : List ℕ) (read : is_read bytes �
       ∙ ap (λ vs. cond (is_hypothesis (stated_at bytes j).kind) [] (pairs_among (distinct_at bytes j) vs)) (ordered j)
 
   typecodes : (s : ℕ) → is_typecode_of new s ≡ is_typecode_of bytes s
-  typecodes s =
-      ap (λ ss. list_any (λ n. nat_eq s n) (filter_map typecode_of ss)) stated_all
-      ∙ ap (λ ns. list_any (λ n. nat_eq s n) ns) (typecodes_moved f (statements_of bytes))
+  typecodes s = ap (λ ns. list_any (λ n. nat_eq s n) ns) (typecodes_same bytes new f nought says)
 
   active_symbols : (j : ℕ) (t : List ℕ) → active_symbol_at new j t ≡ active_symbol_at bytes j t
   unfolding active_symbol_at
-  active_symbols j t = ap (λ past. symbol_by (look_back past t)) (before j) ∙ ap symbol_by (look_back_moved f (past_before j (events_of bytes)) t)
+  active_symbols j t = ap (λ past. symbol_by (look_back past t)) (before_same bytes new f nought says j) ∙ ap symbol_by (look_back_moved f (past_before j (events_of bytes)) t)
 
   -- another proof ends before this one or begins after it
   clear : (j : ℕ) → j ≢ id → ((stated_at bytes j).to ≤ from) ⊎ (to ≤ (stated_at bytes j).from)
@@ -220,13 +202,13 @@ module _ (bytes : List ℕ) (id : ℕ) (text : List ℕ) (read : is_read bytes �
   keeps_the_rest = record {
     read = read_new;
     events_kept = events;
-    labels_kept = labels_same;
-    symbols_kept = symbols_same;
+    labels_kept = labels_same bytes new f nought says;
+    symbols_kept = symbols_same bytes new f nought says;
     stated_kept = stated_same;
     hypotheses_kept = hypotheses;
     variables_kept = variables;
     distinct_kept = groups;
-    constants_kept = constants_same;
+    constants_kept = variables_stay;
     active_symbols_kept = active_symbols;
     active_kept = actives;
     active_pairs_kept = active_pairs;

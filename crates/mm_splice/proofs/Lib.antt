@@ -1,5 +1,4 @@
 mod Stepping
-mod Following
 mod Parts
 mod Turning
 mod Proofs
@@ -10,7 +9,7 @@ mod Replacing
 mod Finding
 mod Placing
 pub mod Keeping
-mod Memory
+mod Sizes
 mod Places
 mod Judging
 pub mod Verdicts

@@ -15,7 +15,7 @@ use Rattle.mm_splice.specs.Moved.{move_stated}
 use Rattle.mm_splice.specs.Overlay.{is_theorem_of, theorems_of, with_proofs_from, with_proofs}
 use Rattle.mm_splice.specs.Splicing.{spliced, is_proof_text, moved}
 use Rattle.mm_splice.proofs.Bytes.{IsText, is_text, low_moved, high_moved, whole_size}
-use Rattle.mm_splice.proofs.Following.{statements_moved}
+use Rattle.mm_scope.proofs.Following.{statements_moved}
 use Rattle.mm_splice.proofs.Gluing.{apart, range_head, range_tail}
 use Rattle.mm_splice.proofs.Parts.{AreEnded}
 use Rattle.mm_splice.proofs.Placing.{theorem_is, theorem_within, pieces_end, proof_stands, proof_within, proofs_in_order}

@@ -19,7 +19,7 @@ use Rattle.mm_scope.specs.declared.mode.Mode.TheVariants as mode
 use Rattle.mm_splice.specs.Moved.{move_event, move_piece}
 use Rattle.mm_splice.specs.Splicing.{put_between, moved_by}
 use Rattle.mm_splice.proofs.Bytes.{IsText, fails_each, nowhere, none_between, low_moved}
-use Rattle.mm_splice.proofs.Following.{blocks_moved}
+use Rattle.mm_scope.proofs.Following.{blocks_moved}
 use Rattle.mm_splice.proofs.Gluing.{head, tail, map_text, pieces_glued, head_alike, tail_alike, text_plain, head_ended, tail_ended}
 use Rattle.mm_splice.proofs.Parts.{AreEnded, ended, none_open, ended_front, ended_both, ended_moved}
 use Rattle.mm_splice.proofs.Proofs.{IsProof}

@@ -17,7 +17,7 @@ use Rattle.mm_scope.specs.declared.fault.ReadFault.{ReadFault}
 use Rattle.mm_scope.specs.declared.mode.Mode.{Mode}
 use Rattle.mm_scope.specs.declared.mode.Mode.TheVariants as mode
 use Rattle.mm_splice.specs.Moved.{move_run, move_piece}
-use Rattle.mm_splice.proofs.Following.{look_back_moved}
+use Rattle.mm_scope.proofs.Following.{look_back_moved}
 use Rattle.mm_splice.proofs.Parts.{AreEnded}
 use Rattle.mm_splice.proofs.Stepping.{Reading, move_state, move_result, step_moved}
 

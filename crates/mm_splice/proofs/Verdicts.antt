@@ -12,7 +12,7 @@ use Rattle.mm_stack.specs.declared.outcome.Verdict.TheVariants.{Accepted}
 use Rattle.mm_splice.specs.Judging.{JudgesTheRest}
 use Rattle.mm_splice.specs.Keeping.{KeepsTheRest, proof_at}
 use Rattle.mm_splice.specs.Splicing.{spliced, moved}
-use Rattle.mm_splice.proofs.Following.{constants_moved}
+use Rattle.mm_scope.proofs.Following.{constants_moved}
 use Rattle.mm_splice.proofs.Judging.{spells_same, comes_same}
 use Rattle.mm_splice.proofs.Places.{steps_free}
 

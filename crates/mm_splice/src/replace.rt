@@ -7,7 +7,7 @@ ghost use Rattle.mm_splice.specs.Answered.{AnswersSplice};
 ghost use Rattle.mm_splice.specs.Splicing.{put_between, spliced, is_proof_text};
 
 use crate::fault::SpliceFault;
-use mm_scope::{Database, MOST_BYTES, ReadFault, StmtId};
+use mm_scope::{Database, MOST_BYTES, Replacement, StmtId};
 use mm_tokens::Span;
 use std::alloc::{AllocError, Global};
 
@@ -45,18 +45,8 @@ fn put_between(
     Ok(joined)
 }
 
-/// Want of memory: the one reason why bytes that can be read are not read.
-fn want_of_memory(fault: ReadFault) -> SpliceFault
-    requires { fault ≡ ReadFault.Memory }
-    ensures { result ≡ SpliceFault.Memory }
-{
-    match fault {
-        ReadFault::Memory => SpliceFault::Memory,
-        _ => unreachable!(),
-    }
-}
-
-/// The database with a text in place of the proof of a theorem. All of it is read anew, in the time that reading takes.
+/// The database with a text in place of the proof of a theorem. Nothing is read anew: the bytes are copied, and the tables
+/// are those of the database as it was, in the time of a copy and of a walk over the statements.
 ///
 /// # Errors
 /// `TooLong` exactly where it would have more than `MOST_BYTES` bytes, and want of memory.
@@ -78,8 +68,10 @@ pub fn splice(
         return Err(SpliceFault::TooLong);
     }
     let bytes = put_between(alloc, old, span.start as usize, span.end as usize, text)?;
-    match Database::read(alloc, bytes) {
-        Ok(database) => Ok(database),
-        Err((_, fault)) => Err(want_of_memory(fault)),
-    }
+    let by = Replacement {
+        from: span.start,
+        to: span.end,
+        size: text.len() as u64,
+    };
+    Ok(db.moved(alloc, bytes, by)?)
 }

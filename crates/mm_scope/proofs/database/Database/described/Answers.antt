@@ -4,10 +4,10 @@ use Rattle.mm_scope.proofs.database.Database.described.Goals as goal
 
 pub returns-clause-room : goal.returns-clause-room
 returns-clause-room c =
-    room_of (length c.args.self.now) c.statement.result.now.described
-    (subst (λ s. Stands (length c.args.self.now) s.described) (sym c.statement.ensures.value) (described_stands c.args.self.now c.args.id.0))
+    room_of (length c.args.self.now) c.places.result.described
+    (subst (λ p. Stands (length c.args.self.now) p.described) (sym c.places.ensures.value) (described_stands c.args.self.now c.args.id.0))
 
 pub returns-clause-within : goal.returns-clause-within
 returns-clause-within c =
-    within_of (length c.args.self.now) c.statement.result.now.described
-    (subst (λ s. Stands (length c.args.self.now) s.described) (sym c.statement.ensures.value) (described_stands c.args.self.now c.args.id.0))
+    within_of (length c.args.self.now) c.places.result.described
+    (subst (λ p. Stands (length c.args.self.now) p.described) (sym c.places.ensures.value) (described_stands c.args.self.now c.args.id.0))

@@ -15,7 +15,7 @@ use Rattle.mm_stated.specs.Stated.{Stated, a_hypothesis, typecode_of, variable_o
 use Rattle.mm_stated.specs.declared.statement.Kind.{Kind}
 use Rattle.mm_stated.specs.declared.statement.Kind.TheVariants as kind
 use Rattle.mm_scope.specs.declared.ending.Ending.TheVariants.{Active, Floated}
-use Rattle.mm_splice.specs.Moved.{move_span, move_event, move_stated}
+use Rattle.mm_scope.specs.Moving.{move_span, move_event, move_stated}
 
 -- tests that agree everywhere
 filter_same : {A : Type 0} (p q : A → Bool) → ((x : A) → p x ≡ q x) → (xs : List A) → filter p xs ≡ filter q xs
