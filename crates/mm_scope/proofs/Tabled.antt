@@ -180,7 +180,7 @@ module _ (bytes : List ℕ) (past : List Event) (e : database_of bytes ≡ Ok pa
   until_kept = ap (λ x. length x.until) same ∙ held.hypotheses.sizes ∙ sym (ap length labels_there)
 
 -- the tables that are kept of a reader
-abbrev tables_with : Reader → List Bool → Tables
+abbrev pub tables_with : Reader → List Bool → Tables
 tables_with r typecodes = record {
   symbols = r.symbols;
   labels = r.labels;

@@ -1,9 +1,8 @@
 -- Tables whose statements carry other places.
-use Rattle.std.proofs.Common.{◌≡◌, ◌<◌, ℕ, zero, suc, ◌+◌, cond, List, [], ◌∷◌, length, map, fold, count_by, get_or, refl, sym, ap, ◌∙◌}
-use Rattle.std.proofs.lemmas.List.{get_or-map}
-use Rattle.mm_scope.specs.Contents.{statements_of, stated_at}
+use Rattle.std.proofs.Common.{◌≡◌, ◌<◌, ℕ, zero, suc, ◌+◌, cond, List, [], ◌∷◌, length, map, fold, count_by, get_or, refl, sym, ap, ◌∙◌, arith}
+use Rattle.std.proofs.lemmas.List.{get_or-map, length-map}
+use Rattle.mm_scope.specs.Contents.{labels_of, statements_of, stated_at}
 use Rattle.mm_scope.specs.Moving.{unplaced, places_of}
-use Rattle.mm_scope.specs.declared.places.Places.{Places}
 use Rattle.mm_stated.specs.Mandatory.{statement_at, variables_of}
 use Rattle.mm_stated.specs.Stated.{Stated, no_statement, is_same_kind}
 use Rattle.mm_stated.specs.Statements.{stated}
@@ -36,11 +35,10 @@ same_at bytes xs kept id x own is =
     ∙ ap (λ ss. statement_at ss id) kept
     ∙ at_unplaced (statements_of bytes) id
 
--- the places of the statement with an id
-pub places_at : (bytes : List ℕ) (ps : List Places) → ps ≡ map places_of (statements_of bytes)
-    → (id : ℕ) (p : Places) → id < length (statements_of bytes) → p ≡ get_or ps id p → p ≡ places_of (stated_at bytes id)
-places_at bytes ps kept id p own is =
-    is ∙ ap (λ qs. get_or qs id p) kept ∙ get_or-map places_of (statements_of bytes) id no_statement p own
+pub own_statement : (bytes : List ℕ) (xs : List Statement) → map (λ s. unplaced (stated s)) xs ≡ map unplaced (statements_of bytes)
+    → length (statements_of bytes) ≡ length (labels_of bytes) → (id : ℕ) → id < length (labels_of bytes) → id < length xs
+own_statement bytes xs kept counted id own =
+    omega (arith, own, counted, ap length kept, length-map xs (λ (s : Statement). unplaced (stated s)), length-map (statements_of bytes) unplaced)
 
 count_from : (k : Kind) (n : ℕ) (ss : List Stated)
     → fold (λ a s. a + cond (is_same_kind k s.kind) 1 0) n (map unplaced ss) ≡ fold (λ a s. a + cond (is_same_kind k s.kind) 1 0) n ss

@@ -6,6 +6,7 @@ ghost use Rattle.std.specs.Option.{option_map};
 ghost use Rattle.std.specs.Str.{bytes_eq};
 ghost use Rattle.mm_scope.specs.Answered.{AnswersRead};
 ghost use Rattle.mm_scope.specs.Contents.{is_read, labels_of, statements_of, symbols_of, stated_at, active_at, active_of, active_pairs_of, distinct_at, ordered_at, find_label, count_kind, is_variable_of, is_typecode_of, is_active_number, active_symbol_at, proof_span_of, IsSound};
+ghost use Rattle.mm_stated.specs.Mandatory.{variables_of};
 ghost use Rattle.mm_stated.specs.Typecodes.{AreTypecodes};
 ghost use Rattle.mm_stated.specs.Statements.{stated};
 ghost use Rattle.mm_scope.specs.ByTables.{tables_of};
@@ -258,7 +259,8 @@ impl Database {
         requires at { at.0 < length (labels_of self.now) }
         ensures { result ≡ list_any (λ n. hypothesis.0 == n) (active_at self.now at.0) }
     {
-        hypothesis.0 < at.0 && is_before(at.0, self.tables().until[hypothesis.0 as usize])
+        let tables = self.tables();
+        hypothesis.0 < at.0 && is_before(at.0, tables.until[hypothesis.0 as usize])
     }
 
     /// How many symbols were ever declared.
@@ -332,6 +334,13 @@ impl Database {
         self.tables().partings.at(id.0).to_parted(alloc)
     }
 
+    /// The variables of the `$f` among statements, in order.
+    fn floated(&self, alloc: Global, ids: &[u32]) -> Result<Vec<u32>, AllocError>
+        ensures { IfOk result (λ v. v.items ≡ variables_of (statements_of self.now) ids.now) }
+    {
+        variables_of(alloc, self.tables().statements.as_slice(), ids)
+    }
+
     /// The variables that are active at a statement, in the order of its pairs.
     fn ordered_variables(&self, alloc: Global, id: StmtId) -> Result<Vec<u32>, AllocError>
         requires { id.0 < length (labels_of self.now) }
@@ -339,7 +348,7 @@ impl Database {
     {
         let tables = self.tables();
         let hypotheses = tables.actives.at(id.0).to_vec(alloc)?;
-        let floated = variables_of(alloc, tables.statements.as_slice(), hypotheses.as_slice())?;
+        let floated = self.floated(alloc, hypotheses.as_slice())?;
         let active = tables.variables.at(id.0).to_vec(alloc)?;
         ordered_variables(alloc, floated.as_slice(), active.as_slice(), self.symbols())
     }
