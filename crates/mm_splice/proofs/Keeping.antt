@@ -87,28 +87,28 @@ module _ (bytes : List ℕ) (id : ℕ) (text : List ℕ) (read : is_read bytes �
   nought : f 0 ≡ 0
   nought = first_stays from to (length text)
 
-  says : SaysTheSame bytes new f
-  says = record { read = read_new; events_kept = events }
+  same : SaysTheSame bytes new f
+  same = record { read = read_new; events_kept = events }
 
   none_stays : move_stated f no_statement ≡ no_statement
   none_stays = rw nought refl
 
   stated_same : (j : ℕ) → stated_at new j ≡ move_stated f (stated_at bytes j)
   stated_same j =
-      ap (λ ss. statement_at ss j) (statements_same bytes new f nought says)
+      ap (λ ss. statement_at ss j) (statements_same bytes new f nought same)
       ∙ get_map (move_stated f) no_statement none_stays (statements_of bytes) j
 
   hypotheses : (j : ℕ) → active_at new j ≡ active_at bytes j
-  hypotheses = active_same bytes new f nought says
+  hypotheses = active_same bytes new f nought same
 
   variables : (j : ℕ) → variables_at new j ≡ variables_at bytes j
-  variables = variables_at_same bytes new f nought says
+  variables = variables_at_same bytes new f nought same
 
   groups : (j : ℕ) → distinct_at new j ≡ distinct_at bytes j
-  groups = distinct_same bytes new f nought says
+  groups = distinct_same bytes new f nought same
 
   variables_stay : (s : ℕ) → is_variable_of new s ≡ is_variable_of bytes s
-  variables_stay s = ap (λ ns. not (list_any (λ n. nat_eq s n) ns)) (constants_same bytes new f nought says)
+  variables_stay s = ap (λ ns. not (list_any (λ n. nat_eq s n) ns)) (constants_same bytes new f nought same)
 
   kinds : (j : ℕ) → (stated_at new j).kind ≡ (stated_at bytes j).kind
   kinds j = ap (λ s. s.kind) (stated_same j)
@@ -119,7 +119,7 @@ module _ (bytes : List ℕ) (id : ℕ) (text : List ℕ) (read : is_read bytes �
 
   floated : (j : ℕ) → variables_of (statements_of new) (active_at new j) ≡ variables_of (statements_of bytes) (active_at bytes j)
   floated j =
-      ap (λ ss. variables_of ss (active_at new j)) (statements_same bytes new f nought says)
+      ap (λ ss. variables_of ss (active_at new j)) (statements_same bytes new f nought same)
       ∙ ap (variables_of (map (move_stated f) (statements_of bytes))) (hypotheses j)
       ∙ floated_moved f (statements_of bytes) (active_at bytes j)
 
@@ -127,7 +127,7 @@ module _ (bytes : List ℕ) (id : ℕ) (text : List ℕ) (read : is_read bytes �
   ordered j =
       ap (λ vs. ordered_variables vs (variables_at new j) (length (symbols_of new))) (floated j)
       ∙ ap (λ vs. ordered_variables (variables_of (statements_of bytes) (active_at bytes j)) vs (length (symbols_of new))) (variables j)
-      ∙ ap (λ ss. ordered_variables (variables_of (statements_of bytes) (active_at bytes j)) (variables_at bytes j) (length ss)) (symbols_same bytes new f nought says)
+      ∙ ap (λ ss. ordered_variables (variables_of (statements_of bytes) (active_at bytes j)) (variables_at bytes j) (length ss)) (symbols_same bytes new f nought same)
 
   active_pairs : (j : ℕ) → active_pairs_of new j ≡ active_pairs_of bytes j
   active_pairs j =
@@ -136,11 +136,11 @@ module _ (bytes : List ℕ) (id : ℕ) (text : List ℕ) (read : is_read bytes �
       ∙ ap (λ vs. cond (is_hypothesis (stated_at bytes j).kind) [] (pairs_among (distinct_at bytes j) vs)) (ordered j)
 
   typecodes : (s : ℕ) → is_typecode_of new s ≡ is_typecode_of bytes s
-  typecodes s = ap (λ ns. list_any (λ n. nat_eq s n) ns) (typecodes_same bytes new f nought says)
+  typecodes s = ap (λ ns. list_any (λ n. nat_eq s n) ns) (typecodes_same bytes new f nought same)
 
   active_symbols : (j : ℕ) (t : List ℕ) → active_symbol_at new j t ≡ active_symbol_at bytes j t
   unfolding active_symbol_at
-  active_symbols j t = ap (λ past. symbol_by (look_back past t)) (before_same bytes new f nought says j) ∙ ap symbol_by (look_back_moved f (past_before j (events_of bytes)) t)
+  active_symbols j t = ap (λ past. symbol_by (look_back past t)) (before_same bytes new f nought same j) ∙ ap symbol_by (look_back_moved f (past_before j (events_of bytes)) t)
 
   -- another proof ends before this one or begins after it
   clear : (j : ℕ) → j ≢ id → ((stated_at bytes j).to ≤ from) ⊎ (to ≤ (stated_at bytes j).from)
@@ -202,8 +202,8 @@ module _ (bytes : List ℕ) (id : ℕ) (text : List ℕ) (read : is_read bytes �
   keeps_the_rest = record {
     read = read_new;
     events_kept = events;
-    labels_kept = labels_same bytes new f nought says;
-    symbols_kept = symbols_same bytes new f nought says;
+    labels_kept = labels_same bytes new f nought same;
+    symbols_kept = symbols_same bytes new f nought same;
     stated_kept = stated_same;
     hypotheses_kept = hypotheses;
     variables_kept = variables;

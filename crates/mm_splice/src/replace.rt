@@ -73,5 +73,6 @@ pub fn splice(
         to: span.end,
         size: text.len() as u64,
     };
-    Ok(db.moved(alloc, bytes, by)?)
+    let database = db.moved(alloc, bytes, by)?;
+    Ok(database)
 }

@@ -41,3 +41,20 @@ moved-requires c =
     (omega (arith, c.if-kept-text.false))) in
     says_the_same bytes text c.in_ok-bytes.bytes.items id from to c.place-span.ensures.from c.place-span.ensures.to
     (same_bytes c.bytes-old.result.now bytes text c.in_ok-bytes.bytes.items id from to c.bytes-old.ensures.value c.place-span.ensures.from c.place-span.ensures.to c.in_ok-bytes.ensures) kept
+
+pub returns : goal.returns
+returns c =
+    let bytes : List ℕ = c.args.db.now in
+    let id : ℕ = c.args.id.0 in
+    let text : List ℕ = c.args.text.now in
+    let from : ℕ = c.place-span.result.start in
+    let to : ℕ = c.place-span.result.end in
+    let kept : KeepsTheRest bytes id text
+    = keeps_the_rest bytes id text c.bytes-old.ensures.read c.requires.theorem c.requires.text
+    (room c.bytes-old.result.now bytes text id from to c.bytes-old.ensures.value c.place-span.ensures.from c.place-span.ensures.to c.place-span.ensures.ordered c.place-span.ensures.within
+    (omega (arith, c.if-kept-text.false))) in (
+      c.in_ok-database.ensures
+          ∙ same_bytes c.bytes-old.result.now bytes text c.in_ok-bytes.bytes.items id from to c.bytes-old.ensures.value c.place-span.ensures.from c.place-span.ensures.to c.in_ok-bytes.ensures,
+      kept,
+      judges_the_rest bytes id text c.bytes-old.ensures.read kept,
+    )
