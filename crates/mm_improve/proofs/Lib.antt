@@ -34,3 +34,4 @@ pub mod FoundProofs
 pub mod FoundKids
 pub mod FoundLays
 pub mod FoundTrees
+pub mod SmallLemmas

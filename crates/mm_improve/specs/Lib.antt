@@ -10,3 +10,4 @@ pub mod Proofs
 pub mod Choices
 pub mod Steps
 pub mod Finding
+pub mod Small

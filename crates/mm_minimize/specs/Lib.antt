@@ -3,3 +3,7 @@ pub mod Combinations
 pub mod Minimising
 pub mod Chains
 pub mod Replacing
+pub mod Serving
+pub mod Fits
+pub mod Targets
+pub mod Trials

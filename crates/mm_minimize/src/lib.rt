@@ -1,10 +1,17 @@
 //! A complete proof made shorter: steps are replaced by earlier assertions, tried in the order of the database.
 #![tactic(auto)]
 
+mod attempt;
 mod bases;
+mod combining;
 mod fault;
+mod fitting;
 mod laws;
 mod proved;
+mod serving;
+mod target;
+mod targets;
+mod trial;
 
 pub use bases::{named, resting_on};
 pub use fault::MinimizeFault;

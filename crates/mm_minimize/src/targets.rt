@@ -1,0 +1,119 @@
+//! The targets of the steps of a proof.
+
+ghost use Rattle.std.specs.Prelude.{◌≡◌, ◌≤◌, ◌<◌, ◌++◌, ◌∷◌, [], length, IfSome, OnErr, OnOk};
+ghost use Rattle.std.specs.Cmp.Lexicographic.{pointwise};
+ghost use Rattle.mm_subst.specs.Symbols.{is_same};
+ghost use Rattle.mm_plain.specs.Valid.{most_steps};
+ghost use Rattle.mm_minimize.specs.Serving.{target_in};
+ghost use Rattle.mm_minimize.specs.Targets.{AreFirsts, string_at};
+
+use crate::target::Target;
+use mm_subst::{WStr, WSym};
+use std::alloc::{AllocError, Global};
+use std::marker::Model;
+
+/// The targets of the steps of a proof, each different string once.
+#[derive(Drop)]
+pub struct Targets {
+    different: Vec<Target>,
+    numbers: Vec<usize>,
+}
+
+impl Model for Targets {
+    ghost use Rattle.std.specs.Prelude.{List};
+    ghost use Rattle.mm_subst.specs.declared.symbol.WSym.{WSym};
+
+    ghost Value = { List (List WSym) };
+
+    ghost use Rattle.mm_minimize.specs.Targets.{AreNumbered, strings_by};
+
+    ghost view = { λ t. strings_by t.different.items t.numbers.items };
+
+    ghost invariant = { λ t. AreNumbered t.different.items t.numbers.items };
+}
+
+/// Whether two strings are the same.
+fn is_same_string(one: &[WSym], other: &[WSym]) -> bool
+    ensures { result ≡ pointwise is_same one.now other.now }
+{
+    if one.len() != other.len() {
+        return false;
+    }
+    for i in 0..one.len() {
+        if !one[i].is_same(other[i]) {
+            return false;
+        }
+    }
+    true
+}
+
+/// The place of a string among some targets.
+fn place_of(different: &[Target], string: &[WSym]) -> Option<usize>
+    ensures within { IfSome result (λ n. n < length different.now) }
+    ensures is { IfSome result (λ n. string_at different.now n ≡ string.now) }
+{
+    for (n, target) in different.iter().enumerate() {
+        if is_same_string(target.string.symbols(), string) {
+            return Some(n);
+        }
+    }
+    None
+}
+
+impl Targets {
+    /// The targets of no step. This takes no memory.
+    pub fn new(alloc: Global) -> Targets
+        ensures { result ≡ [] }
+    {
+        Targets {
+            different: Vec::new(alloc),
+            numbers: Vec::new(alloc),
+        }
+    }
+
+    /// Appends the target of the next step. Where that is refused the targets are as before.
+    pub fn push(&mut self, target: WStr) -> Result<(), AllocError>
+        requires { length self.old < most_steps }
+        ensures ok { OnOk result (self.new ≡ self.old ++ target ∷ []) }
+        ensures err { OnErr result (self.new ≡ self.old) }
+    {
+        self.numbers.reserve(1)?;
+        let number = match place_of(self.different.as_slice(), target.symbols()) {
+            Some(number) => number,
+            None => {
+                let first = self.numbers.len() as u32 + 1;
+                self.different.push(Target {
+                    string: target,
+                    first,
+                })?;
+                self.different.len() - 1
+            }
+        };
+        self.numbers.push(number)?;
+        Ok(())
+    }
+
+    /// How many steps there are.
+    pub fn count(&self) -> usize
+        ensures { result ≡ length self.now }
+    {
+        self.numbers.len()
+    }
+
+    /// The target of a step, counted from 1.
+    pub fn target(&self, step: u32) -> &[WSym]
+        requires some { 1 ≤ step }
+        requires own { step ≤ length self.now }
+        ensures { result.now ≡ target_in self.now step }
+    {
+        let number = self.numbers[step as usize - 1];
+        self.different[number].string.symbols()
+    }
+
+    /// The different strings among them, each with the first step that has it, in the order of these.
+    pub fn different(&self) -> &[Target]
+        ensures { AreFirsts result.now self.now }
+    {
+        self.different.as_slice()
+    }
+}
