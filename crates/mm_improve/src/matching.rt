@@ -92,7 +92,7 @@ fn value_in<'a>(sigma: &'a Subst, symbol: &'a WSym) -> &'a [WSym]
 }
 
 /// Whether the distinct pairs of an assertion hold for the theorem with these groups of variables.
-fn are_apart(db: &Database, groups: &Parted, id: StmtId, sigma: &Subst) -> bool
+pub fn are_apart(db: &Database, groups: &Parted, id: StmtId, sigma: &Subst) -> bool
     requires { id.0 < length (labels_of db.now) }
     ensures { result ≡ list_all (λ p. are_parted groups.now (value_of sigma.now (Var p.0)) (value_of sigma.now (Var p.1))) (stated_at db.now id.0).pairs }
 {

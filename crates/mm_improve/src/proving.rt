@@ -5,18 +5,24 @@ ghost use Rattle.mm_scope.specs.Contents.{labels_of, stated_at};
 ghost use Rattle.mm_stated.specs.Stated.{is_hypothesis};
 ghost use Rattle.mm_plain.specs.Valid.{IsString, IsValid, first_setting};
 ghost use Rattle.mm_tree.specs.Versions.{HasNoDrafts};
+ghost use Rattle.mm_subst.specs.Statements.{statement_of};
+ghost use Rattle.mm_subst.specs.Substitutions.{applied};
+ghost use Rattle.mm_improve.specs.Finding.{HasStrings};
 ghost use Rattle.mm_improve.specs.Laying.{IsReady};
-ghost use Rattle.mm_improve.specs.Proving.{IsFound, proof_of};
+ghost use Rattle.mm_improve.specs.Proving.{IsFound, chosen_tree, proof_of};
 ghost use Rattle.mm_improve.specs.Searches.{terms};
+ghost use Rattle.mm_improve.specs.Small.{is_small};
 
 use crate::database::{Search, is_float_code};
 use crate::fault::ImproveFault;
 use crate::finding::{found_size, lay_found};
+use crate::first_use::premise_goal;
 use crate::laws::found_proofs_are_proofs;
+use crate::laying::lay_chosen;
 use crate::prover::Prover;
 use mm_base::Steps;
-use mm_scope::Database;
-use mm_subst::WStr;
+use mm_scope::{Database, StmtId};
+use mm_subst::{Memory, Subst, WStr};
 use mm_tree::{MOST_LEVELS, Plan, Tree};
 use std::alloc::Global;
 use std::sync::ledger::Ledger;
@@ -85,6 +91,31 @@ impl Prover {
                 Err(ImproveFault::TooDeep)
             }
             Err(fault) => Err(fault),
+        }
+    }
+
+    /// Whether the goal of a hypothesis under a substitution has a chosen proof that is not too large: one of at most
+    /// 1,000,000 steps and 2,000 levels.
+    pub fn has_small(
+        &self,
+        alloc: Global,
+        db: &Database,
+        id: StmtId,
+        sigma: &Subst,
+    ) -> Result<bool, Memory>
+        requires ready { IsReady db.now self.now }
+        requires own { id.0 < length (labels_of db.now) }
+        requires values { HasStrings db.now self.now.search.at.0 sigma.now }
+        ensures { IfOk result (λ b. b ≡ is_small (chosen_tree (terms db.now self.now.search) (applied sigma.now (statement_of db.now id.0)))) }
+    {
+        let Some(goal) = premise_goal(alloc, db, id, sigma)? else {
+            return Ok(false);
+        };
+        let mut plan = Plan::new(alloc);
+        match lay_chosen(alloc, db, self, &goal, MOST_LEVELS as u32, &mut plan) {
+            Ok(there) => Ok(there),
+            Err(ImproveFault::TooManySteps | ImproveFault::TooDeep) => Ok(false),
+            Err(ImproveFault::Memory) => Err(Memory),
         }
     }
 }

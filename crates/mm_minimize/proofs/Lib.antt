@@ -1,3 +1,12 @@
 pub mod ChainLemmas
 pub mod CombinationLemmas
 pub mod BaseLemmas
+pub mod MatchLemmas
+pub mod OutcomeLemmas
+pub mod ServingLemmas
+pub mod AlikeLemmas
+pub mod PatternLemmas
+pub mod SearchLemmas
+pub mod ValueLemmas
+pub mod SubstitutionLemmas
+pub mod StepLemmas

@@ -18,7 +18,7 @@ use Rattle.mm_improve.specs.Laying.{IsReady}
 use Rattle.mm_improve.specs.Proving.{chosen_tree}
 use Rattle.mm_improve.specs.Searches.{terms}
 use Rattle.mm_minimize.specs.Combinations.{Combination, combinations_by, essentials_of, pattern_of}
-use Rattle.mm_minimize.specs.Fits.{fits}
+use Rattle.mm_minimize.specs.Fits.{HasSymbol, fits}
 use Rattle.mm_minimize.specs.Serving.{Serving, first_of, target_in}
 use Rattle.mm_minimize.specs.declared.attempt.Attempt.{Attempt}
 use Rattle.mm_minimize.specs.declared.trial.Trial.{Trial}
@@ -50,10 +50,6 @@ pub record IsAttempt (a : Attempt) : Type 0 where
   pub strings : All (IsString (first_setting a.db.now a.prover.now.search.at.0)) a.targets.now
   pub some : 1 ≤ a.step
   pub within : a.step ≤ length a.targets.now
-
-abbrev pub HasSymbol : WSym → List WSym → Type 0
-HasSymbol x [] = ⊥
-HasSymbol x (y ∷ s) = (x ≡ y) ⊎ HasSymbol x s
 
 -- the `$e` patterns that are left after some of them
 abbrev pub left_after : Attempt → ℕ → List (List WSym)

@@ -6,7 +6,7 @@ use mm_improve::Prover;
 use mm_scope::Database;
 
 /// An assertion that is tried at a step of a proof.
-#[derive(Clone, Copy)]
+#[derive(Drop)]
 pub struct Attempt<'a> {
     pub db: &'a Database,
     pub prover: &'a Prover,

@@ -82,8 +82,13 @@ fn walk<'a>(
     };
     match rest.split_first() {
         Some((key, rest)) => extend(alloc, attempt, level, *key, rest, left, values, steps),
-        None if left.is_empty() => next(alloc, attempt, level, values, steps),
-        None => Ok(None),
+        None => {
+            if left.is_empty() {
+                next(alloc, attempt, level, values, steps)
+            } else {
+                Ok(None)
+            }
+        }
     }
 }
 

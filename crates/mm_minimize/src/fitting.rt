@@ -5,14 +5,14 @@ ghost use Rattle.mm_subst.specs.Brackets.{has_number, is_balanced_by};
 ghost use Rattle.mm_subst.specs.Substitutions.{value_at, value_of};
 ghost use Rattle.mm_unify.specs.Forbidden.{forbidden_by};
 ghost use Rattle.mm_unify.specs.Matching.{behind, known_value, matches};
-ghost use Rattle.mm_minimize.specs.Fits.{IsFree};
+ghost use Rattle.mm_minimize.specs.Fits.{Advances};
 
 use mm_subst::{Bracket, Brackets, WSym};
 use std::marker::Model;
 use std::slice;
 
 /// A variable with its value, which is a part of a target.
-#[derive(Clone, Copy)]
+#[derive(Drop)]
 pub struct Bound<'a> {
     pub key: WSym,
     pub value: &'a [WSym],
@@ -83,7 +83,7 @@ pub fn advance<'p, 'a>(
     target: &'a [WSym],
     values: &[Bound<'a>],
 ) -> Option<(&'p [WSym], &'a [WSym])>
-    ensures { MatchOption result (matches pattern.now values.now target.now ≡ []) (λ r. (matches pattern.now values.now target.now ≡ matches r.0.now values.now r.1.now) × IsFree values.now r.0.now) }
+    ensures { MatchOption result (matches pattern.now values.now target.now ≡ []) (λ r. Advances values.now pattern.now target.now r.0.now r.1.now) }
 {
     let mut left = target;
     for (at, symbol) in pattern.iter().enumerate() {
@@ -95,7 +95,7 @@ pub fn advance<'p, 'a>(
         };
         left = rest;
     }
-    Some((&[], left))
+    Some((&pattern[pattern.len()..], left))
 }
 
 fn has_number(number: Option<u32>, symbol: WSym) -> bool
