@@ -17,9 +17,9 @@ use Rattle.mm_unify.specs.Listings.{answer}
 use Rattle.mm_unify.specs.Matching.{lengths, behind, onward, known_value, by_value, matches, are_allowed}
 use Rattle.mm_unify.specs.Unifying.{restricted}
 use Rattle.mm_unify.specs.Variables.{numbers}
-use Rattle.mm_unify.proofs.Listed.{lists_matches, restricted_value, restricted_plain}
+use Rattle.mm_unify.proofs.Listed.{lists_matches, restricted_value}
 use Rattle.mm_unify.proofs.Lists.{AllByRecursion-append}
-use Rattle.mm_unify.proofs.Mapping.{applied_everywhere, cases_same, value_first, value_later}
+use Rattle.mm_unify.proofs.Mapping.{applied_everywhere, cases_same, is_same-false, value_first, value_later}
 use Rattle.mm_unify.proofs.Matched.{AreNamed, Fit, behind-some, made}
 use Rattle.mm_unify.proofs.Root.{Has, numbered, numbered_right}
 use Rattle.mm_unify.proofs.Sorted.{Among}
@@ -140,12 +140,12 @@ matches_behind : (w b : List WSym) (v : Pairs) (s : List WSym) → has_work w �
 matches_behind [] b v s h = refl
 matches_behind (c ∷ w) b v s h =
     let q = neither (is_work c) (has_work w) h in
-    ap (λ (t : Bool). by_value (λ v s. matches (w ++ b) v s) c v s (cond t (value_at v c) (Some (c ∷ [])))) q.0 ∙ go s
+    ap (λ (t : Bool). by_value (λ v s. matches (w ++ b) v s) c v s (cond t (value_at v c) (Some (c ∷ [])))) q.0 ∙ go (λ s. matches_behind w b v s q.1) s
   where
-    go : (s : List WSym) → onward (matches (w ++ b) v) (behind (c ∷ []) s) ≡ onward (matches b v) (behind (c ∷ w) s)
-    go [] = refl
-    go (y ∷ s) = elim (is_same c y) as (λ t. onward (matches (w ++ b) v) (cond t (Some s) None) ≡ onward (matches b v) (cond t (behind w s) None)) [
-      | true ↦ matches_behind w b v s (neither (is_work c) (has_work w) h).1
+    go : ((s : List WSym) → matches (w ++ b) v s ≡ onward (matches b v) (behind w s)) → (s : List WSym) → onward (matches (w ++ b) v) (behind (c ∷ []) s) ≡ onward (matches b v) (behind (c ∷ w) s)
+    go more [] = refl
+    go more (y ∷ s) = elim (is_same c y) as (λ t. onward (matches (w ++ b) v) (cond t (Some s) None) ≡ onward (matches b v) (cond t (behind w s) None)) [
+      | true ↦ more s
       | false ↦ refl
     ]
 
@@ -158,11 +158,11 @@ keyless v x h e = no_key v (All-from_recursion (λ p. is_work p.0 ≡ true) v (w
 
 plain_value : (v : Pairs) (x : WSym) (w : List WSym) → ArePlain v → value_at v x ≡ Some w → has_work w ≡ false
 plain_value [] x w h e = absurd (cc)
-plain_value (q ∷ v) x w h e = by (is_same q.0 x) e
+plain_value (q ∷ v) x w h e = by (λ k. plain_value v x w h.1 k) (is_same q.0 x) e
   where
-    by : (b : Bool) → cond b (Some q.1) (value_at v x) ≡ Some w → has_work w ≡ false
-    by true k = let z : q.1 ≡ w = cc in subst (λ (t : List WSym). has_work t ≡ false) z h.0
-    by false k = plain_value v x w h.1 k
+    by : (value_at v x ≡ Some w → has_work w ≡ false) → (b : Bool) → cond b (Some q.1) (value_at v x) ≡ Some w → has_work w ≡ false
+    by more true k = let z : q.1 ≡ w = cc in subst (λ (t : List WSym). has_work t ≡ false) z h.0
+    by more false k = more k
 
 abbrev after : Pairs → Pairs → Pairs
 after values v = values ++ v
@@ -175,13 +175,10 @@ map_onward g f h each (Some t) = each t
 matches_under : (b : List WSym) (values v : Pairs) (s : List WSym) → Fit values → ArePlain values → matches b (values ++ v) s ≡ map (after values) (matches (applied values b) v s)
 matches_under [] values v [] h p = ap (λ (b : List WSym). map (after values) (matches b v [])) (sym (applied-nil values))
 matches_under [] values v (c ∷ s) h p = ap (λ (b : List WSym). map (after values) (matches b v (c ∷ s))) (sym (applied-nil values))
-matches_under (x ∷ b) values v s h p = by (is_work x) (value_at values x) refl refl
+matches_under (x ∷ b) values v s h p = by (λ v t. matches_under b values v t h p) (is_work x) (value_at values x) refl refl
   where
     rest : List WSym
     rest = applied values b
-
-    ih : (v : Pairs) (t : List WSym) → matches b (values ++ v) t ≡ map (after values) (matches rest v t)
-    ih v t = matches_under b values v t h p
 
     right : (w : List WSym) → value_of values x ≡ w → map (after values) (matches (w ++ rest) v s) ≡ map (after values) (matches (applied values (x ∷ b)) v s)
     right w e = ap (λ (u : List WSym). map (after values) (matches (u ++ rest) v s)) (sym e) ∙ ap (λ (u : List WSym). map (after values) (matches u v s)) (sym (applied-cons values x b))
@@ -189,29 +186,29 @@ matches_under (x ∷ b) values v s h p = by (is_work x) (value_at values x) refl
     left : (o : Option (List WSym)) → value_at values x ≡ o → value_at (values ++ v) x ≡ or_next o (value_at v x)
     left o e = value_at-append values v x ∙ ap (λ (u : Option (List WSym)). or_next u (value_at v x)) e
 
-    free : (o : Option (List WSym)) → by_value (λ v s. matches b v s) x (values ++ v) s o ≡ map (after values) (by_value (λ v s. matches rest v s) x v s o)
-    free (Some w) = map_onward (after values) (matches b (values ++ v)) (matches rest v) (λ t. ih v t) (behind w s)
-    free None =
+    free : ((v : Pairs) (t : List WSym) → matches b (values ++ v) t ≡ map (after values) (matches (applied values b) v t)) → (o : Option (List WSym)) → by_value (λ v s. matches b v s) x (values ++ v) s o ≡ map (after values) (by_value (λ v s. matches rest v s) x v s o)
+    free ih (Some w) = map_onward (after values) (matches b (values ++ v)) (matches rest v) (λ t. ih v t) (behind w s)
+    free ih None =
         same_flat (λ n. matches b ((values ++ v) ++ (x, take n s) ∷ []) (drop n s)) (λ n. map (after values) (matches rest (v ++ (x, take n s) ∷ []) (drop n s)))
         (λ n. ap (λ (u : Pairs). matches b u (drop n s)) (append_assoc values v ((x, take n s) ∷ [])) ∙ ih (v ++ (x, take n s) ∷ []) (drop n s)) (lengths (length s))
         ∙ sym (map_flat (after values) (λ n. matches rest (v ++ (x, take n s) ∷ []) (drop n s)) (λ n. map (after values) (matches rest (v ++ (x, take n s) ∷ []) (drop n s))) (λ n. refl) (lengths (length s)))
 
-    by : (t : Bool) (o : Option (List WSym)) → is_work x ≡ t → value_at values x ≡ o → matches (x ∷ b) (values ++ v) s ≡ map (after values) (matches (applied values (x ∷ b)) v s)
-    by true (Some w) e k =
+    by : ((v : Pairs) (t : List WSym) → matches b (values ++ v) t ≡ map (after values) (matches (applied values b) v t)) → (t : Bool) (o : Option (List WSym)) → is_work x ≡ t → value_at values x ≡ o → matches (x ∷ b) (values ++ v) s ≡ map (after values) (matches (applied values (x ∷ b)) v s)
+    by ih true (Some w) e k =
         ap (λ (t : Bool). by_value (λ v s. matches b v s) x (values ++ v) s (cond t (value_at (values ++ v) x) (Some (x ∷ [])))) e
         ∙ ap (λ (u : Option (List WSym)). by_value (λ v s. matches b v s) x (values ++ v) s u) (left (Some w) k)
         ∙ map_onward (after values) (matches b (values ++ v)) (matches rest v) (λ t. ih v t) (behind w s)
         ∙ sym (ap (map (after values)) (matches_behind w rest v s (plain_value values x w p k)))
         ∙ right w (ap (or_itself x) k)
-    by true None e k =
+    by ih true None e k =
         ap (λ (t : Bool). by_value (λ v s. matches b v s) x (values ++ v) s (cond t (value_at (values ++ v) x) (Some (x ∷ [])))) e
         ∙ ap (λ (u : Option (List WSym)). by_value (λ v s. matches b v s) x (values ++ v) s u) (left None k)
-        ∙ free (value_at v x)
+        ∙ free ih (value_at v x)
         ∙ ap (λ (t : Bool). map (after values) (by_value (λ v s. matches rest v s) x v s (cond t (value_at v x) (Some (x ∷ []))))) (sym e)
         ∙ right (x ∷ []) (ap (or_itself x) k)
-    by false o e k =
+    by ih false o e k =
         ap (λ (t : Bool). by_value (λ v s. matches b v s) x (values ++ v) s (cond t (value_at (values ++ v) x) (Some (x ∷ [])))) e
-        ∙ free (Some (x ∷ []))
+        ∙ free ih (Some (x ∷ []))
         ∙ ap (λ (t : Bool). map (after values) (by_value (λ v s. matches rest v s) x v s (cond t (value_at v x) (Some (x ∷ []))))) (sym e)
         ∙ right (x ∷ []) (ap (or_itself x) (keyless values x h e))
 
@@ -249,6 +246,10 @@ named_has ms (q ∷ v) n w h e = elim (cases_same q.0 (Work n)) [
   | inl s ↦ h.0 n s
   | inr s ↦ named_has ms v n w h.1 (sym (ap (λ (b : Bool). cond b (Some q.1) (value_at v (Work n))) s) ∙ e)
 ]
+
+restricted_plain : (v : Pairs) (ms : List ℕ) (x : WSym) → is_work x ≡ false → value_of (restricted v ms) x ≡ x ∷ []
+restricted_plain v [] x e = refl
+restricted_plain v (m ∷ ms) x e = value_later (Work m, value_of v (Work m)) (restricted v ms) x (is_same-false (Work m) x (λ q. let z = ap is_work q in cc)) ∙ restricted_plain v ms x e
 
 restricted_alike : (v : Pairs) (ms : List ℕ) → Fit v → AreNamed ms v → Alike (restricted v ms) v
 restricted_alike v ms h n (Const k) = restricted_plain v ms (Const k) refl ∙ sym (ap (or_itself (Const k)) (keyless v (Const k) h refl))
@@ -294,21 +295,21 @@ filter_each P p (x ∷ xs) h = by (p x) (filter_each P p xs h.1)
 
 allowed_both : (f : Forbidden) (u v : Pairs) → are_allowed f u ≡ true → are_allowed f (u ++ v) ≡ are_allowed f v
 allowed_both f [] v h = refl
-allowed_both f (q ∷ u) v h = by (not (f.at_end q.1)) h
+allowed_both f (q ∷ u) v h = by (λ k. allowed_both f u v k) (not (f.at_end q.1)) h
   where
-    by : (b : Bool) → (b && are_allowed f u) ≡ true → (b && are_allowed f (u ++ v)) ≡ are_allowed f v
-    by true k = allowed_both f u v k
-    by false k = absurd (true≢false (sym k))
+    by : (are_allowed f u ≡ true → are_allowed f (u ++ v) ≡ are_allowed f v) → (b : Bool) → (b && are_allowed f u) ≡ true → (b && are_allowed f (u ++ v)) ≡ are_allowed f v
+    by more true k = more k
+    by more false k = absurd (true≢false (sym k))
 
 filter_after : (f : Forbidden) (values : Pairs) → are_allowed f values ≡ true → (xs : List Pairs) → filter (are_allowed f) (map (after values) xs) ≡ map (after values) (filter (are_allowed f) xs)
 filter_after f values h [] = refl
 filter_after f values h (v ∷ xs) =
     ap (λ (b : Bool). cond b ((values ++ v) ∷ filter (are_allowed f) (map (after values) xs)) (filter (are_allowed f) (map (after values) xs))) (allowed_both f values v h)
-    ∙ by (are_allowed f v)
+    ∙ by (filter_after f values h xs) (are_allowed f v)
   where
-    by : (b : Bool) → cond b ((values ++ v) ∷ filter (are_allowed f) (map (after values) xs)) (filter (are_allowed f) (map (after values) xs)) ≡ map (after values) (cond b (v ∷ filter (are_allowed f) xs) (filter (are_allowed f) xs))
-    by true = ap (λ (ys : List Pairs). (values ++ v) ∷ ys) (filter_after f values h xs)
-    by false = filter_after f values h xs
+    by : filter (are_allowed f) (map (after values) xs) ≡ map (after values) (filter (are_allowed f) xs) → (b : Bool) → cond b ((values ++ v) ∷ filter (are_allowed f) (map (after values) xs)) (filter (are_allowed f) (map (after values) xs)) ≡ map (after values) (cond b (v ∷ filter (are_allowed f) xs) (filter (are_allowed f) xs))
+    by more true = ap (λ (ys : List Pairs). (values ++ v) ∷ ys) more
+    by more false = more
 
 map_twice : {X Y Z : Type 0} (f : X → Y) (g : Y → Z) (xs : List X) → map g (map f xs) ≡ map (λ x. g (f x)) xs
 map_twice f g [] = refl

@@ -39,11 +39,11 @@ over-same g h each (x ∷ xs) = ap (λ (o : Option _). or_else o (first_over g x
 -- whether there is one
 pub over-there : {A B : Type 0} (g : A → Option B) (xs : List A) → is_there (first_over g xs) ≡ list_any (λ x. is_there (g x)) xs
 over-there g [] = refl
-over-there g (x ∷ xs) = by (g x)
+over-there g (x ∷ xs) = by (over-there g xs) (g x)
   where
-    by : (o : Option _) → is_there (or_else o (first_over g xs)) ≡ (is_there o || list_any (λ y. is_there (g y)) xs)
-    by None = over-there g xs
-    by (Some y) = refl
+    by : is_there (first_over g xs) ≡ list_any (λ y. is_there (g y)) xs → (o : Option _) → is_there (or_else o (first_over g xs)) ≡ (is_there o || list_any (λ y. is_there (g y)) xs)
+    by more None = more
+    by more (Some y) = refl
 
 same_any : {A : Type 0} (p q : A → Bool) → ((x : A) → p x ≡ q x) → (xs : List A) → list_any p xs ≡ list_any q xs
 same_any p q each [] = refl
@@ -137,15 +137,15 @@ module _ (c : improve.Terms) (prove : List WSym → Option Plain) (id : ℕ) whe
         ap is_there (of-flat (λ k. flat_map (λ w. from hs w (ks ++ k ∷ [])) (found (target k) h v)) (steps_below s))
         ∙ over-there (λ k. first_of c prove id (flat_map (λ w. from hs w (ks ++ k ∷ [])) (found (target k) h v))) (steps_below s)
         ∙ same_any (λ k. is_there (first_of c prove id (flat_map (λ w. from hs w (ks ++ k ∷ [])) (found (target k) h v)))) (λ k. is_there (first_of c prove id (flat_map (λ w. from hs w (js ++ k ∷ [])) (found (target k) h v))))
-        (λ k. each k (found (target k) h v)) (steps_below s)
+        (λ k. each k (λ w. same-there hs w (ks ++ k ∷ []) (js ++ k ∷ [])) (found (target k) h v)) (steps_below s)
         ∙ sym (over-there (λ k. first_of c prove id (flat_map (λ w. from hs w (js ++ k ∷ [])) (found (target k) h v))) (steps_below s))
         ∙ sym (ap is_there (of-flat (λ k. flat_map (λ w. from hs w (js ++ k ∷ [])) (found (target k) h v)) (steps_below s)))
       where
-        each : (k : ℕ) (ws : List Pairs) → is_there (first_of c prove id (flat_map (λ w. from hs w (ks ++ k ∷ [])) ws)) ≡ is_there (first_of c prove id (flat_map (λ w. from hs w (js ++ k ∷ [])) ws))
-        each k ws =
+        each : (k : ℕ) → ((w : Pairs) → is_there (first_of c prove id (combinations_by found target s hs w (ks ++ k ∷ []))) ≡ is_there (first_of c prove id (combinations_by found target s hs w (js ++ k ∷ [])))) → (ws : List Pairs) → is_there (first_of c prove id (flat_map (λ w. from hs w (ks ++ k ∷ [])) ws)) ≡ is_there (first_of c prove id (flat_map (λ w. from hs w (js ++ k ∷ [])) ws))
+        each k more ws =
             ap is_there (of-flat (λ w. from hs w (ks ++ k ∷ [])) ws)
             ∙ over-there (λ w. first_of c prove id (from hs w (ks ++ k ∷ []))) ws
-            ∙ same_any (λ w. is_there (first_of c prove id (from hs w (ks ++ k ∷ [])))) (λ w. is_there (first_of c prove id (from hs w (js ++ k ∷ [])))) (λ w. same-there hs w (ks ++ k ∷ []) (js ++ k ∷ [])) ws
+            ∙ same_any (λ w. is_there (first_of c prove id (from hs w (ks ++ k ∷ [])))) (λ w. is_there (first_of c prove id (from hs w (js ++ k ∷ [])))) more ws
             ∙ sym (over-there (λ w. first_of c prove id (from hs w (js ++ k ∷ []))) ws)
             ∙ sym (ap is_there (of-flat (λ w. from hs w (js ++ k ∷ [])) ws))
 

@@ -23,7 +23,10 @@ use Rattle.mm_subst.specs.Symbols.{is_same, is_work}
 use Rattle.mm_subst.proofs.Replaced.{applied-cons, applied-nil}
 use Rattle.mm_plain.specs.Drawing.{fresh_for, fresh_from}
 use Rattle.mm_plain.specs.Premises.{premise_ids, variables_for}
-use Rattle.mm_plain.proofs.Forms.{formed, no_other}
+use Rattle.mm_plain.specs.Valid.{first_setting}
+use Rattle.mm_plain.proofs.Forms.{formed, no_other, string_of_statement}
+use Rattle.mm_plain.proofs.Fresh.{length-applied-fresh}
+use Rattle.mm_subst.specs.Applied.{most_symbols}
 use Rattle.mm_improve.proofs.Translating.{fresh-constant}
 use Rattle.mm_minimize.specs.Combinations.{essentials_of, pattern_of}
 use Rattle.mm_minimize.specs.Fits.{HasSymbol}
@@ -105,17 +108,17 @@ not_essential kind.Theorem needed e = refl
 
 essentials_kept : (xs : List Stated) (needed ids : List ℕ) → flat_map (λ id. essential_symbols (statement_at xs id)) (filter (λ m. is_mandatory needed (statement_at xs m)) ids) ≡ flat_map (λ id. essential_symbols (statement_at xs id)) ids
 essentials_kept xs needed [] = refl
-essentials_kept xs needed (m ∷ ms) = by (is_mandatory needed (statement_at xs m)) refl
+essentials_kept xs needed (m ∷ ms) = by (essentials_kept xs needed ms) (is_mandatory needed (statement_at xs m)) refl
   where
     rest : List ℕ
     rest = flat_map (λ id. essential_symbols (statement_at xs id)) ms
 
-    by : (b : Bool) → is_mandatory needed (statement_at xs m) ≡ b
+    by : flat_map (λ id. essential_symbols (statement_at xs id)) (filter (λ m. is_mandatory needed (statement_at xs m)) ms) ≡ flat_map (λ id. essential_symbols (statement_at xs id)) ms → (b : Bool) → is_mandatory needed (statement_at xs m) ≡ b
         → flat_map (λ id. essential_symbols (statement_at xs id)) (cond b (m ∷ filter (λ m. is_mandatory needed (statement_at xs m)) ms) (filter (λ m. is_mandatory needed (statement_at xs m)) ms)) ≡ essential_symbols (statement_at xs m) ++ rest
-    by true e = ap (λ (ns : List ℕ). essential_symbols (statement_at xs m) ++ ns) (essentials_kept xs needed ms)
-    by false e =
+    by more true e = ap (λ (ns : List ℕ). essential_symbols (statement_at xs m) ++ ns) more
+    by more false e =
         let none : is_essential (statement_at xs m).kind ≡ false = not_essential (statement_at xs m).kind (list_any (λ n. slice_index (statement_at xs m).symbols 1 == n) needed) e in
-        essentials_kept xs needed ms ∙ sym (ap (λ (b : Bool). (if b then (statement_at xs m).symbols else []) ++ rest) none)
+        more ∙ sym (ap (λ (b : Bool). (if b then (statement_at xs m).symbols else []) ++ rest) none)
 
 float_needed : (k : Kind) (ss needed : List ℕ) (v : ℕ) → is_mandatory_by k (list_any (λ n. slice_index ss 1 == n) needed) ≡ true → floated_by k ss 1 ≡ Some v → list_any (λ n. v == n) needed ≡ true
 float_needed kind.Float ss needed v h e = subst (λ (u : ℕ). list_any (λ n. u == n) needed ≡ true) (second ss v e) h
@@ -293,17 +296,17 @@ module _ (bytes : List ℕ) where
         → HasSymbol y (flat_map (λ (h : List WSym). h) (map (pattern_of bytes id) (filter is_one ms)))
     in_essentials v y [] w h e = absurd (false≢true h)
     in_essentials v y (m ∷ ms) w h e =
-        by (is_one m) (sym (list_any-append (λ n. v == n) (essential_symbols (stated_at bytes m)) (flat_map (λ m. essential_symbols (stated_at bytes m)) ms)) ∙ h)
+        by (λ q. in_essentials v y ms w q e) (is_one m) (sym (list_any-append (λ n. v == n) (essential_symbols (stated_at bytes m)) (flat_map (λ m. essential_symbols (stated_at bytes m)) ms)) ∙ h)
       where
         rest : List (List WSym)
         rest = map (pattern_of bytes id) (filter is_one ms)
 
-        by : (b : Bool) → (list_any (λ n. v == n) (if b then (stated_at bytes m).symbols else []) || list_any (λ n. v == n) (flat_map (λ m. essential_symbols (stated_at bytes m)) ms)) ≡ true
+        by : (list_any (λ n. v == n) (flat_map (λ m. essential_symbols (stated_at bytes m)) ms) ≡ true → HasSymbol y (flat_map (λ (h : List WSym). h) (map (pattern_of bytes id) (filter is_one ms)))) → (b : Bool) → (list_any (λ n. v == n) (if b then (stated_at bytes m).symbols else []) || list_any (λ n. v == n) (flat_map (λ m. essential_symbols (stated_at bytes m)) ms)) ≡ true
             → HasSymbol y (flat_map (λ (h : List WSym). h) (map (pattern_of bytes id) (cond b (m ∷ filter is_one ms) (filter is_one ms))))
-        by false q = in_essentials v y ms w q e
-        by true q = elim (either (list_any (λ n. v == n) (stated_at bytes m).symbols) (list_any (λ n. v == n) (flat_map (λ m. essential_symbols (stated_at bytes m)) ms)) q) [
+        by more false q = more q
+        by more true q = elim (either (list_any (λ n. v == n) (stated_at bytes m).symbols) (list_any (λ n. v == n) (flat_map (λ m. essential_symbols (stated_at bytes m)) ms)) q) [
           | inl a ↦ has_left y (pattern_of bytes id m) (flat_map (λ (h : List WSym). h) rest) (in_pattern m v y w a e)
-          | inr b ↦ has_right y (pattern_of bytes id m) (flat_map (λ (h : List WSym). h) rest) (in_essentials v y ms w b e)
+          | inr b ↦ has_right y (pattern_of bytes id m) (flat_map (λ (h : List WSym). h) rest) (more b)
         ]
 
     -- a mandatory variable is that of a mandatory `$f`
@@ -311,16 +314,15 @@ module _ (bytes : List ℕ) where
         (m : ℕ) × (variable_of (stated_at bytes m) ≡ Some (get_or (variables_of (statements_of bytes) ms) k 0)) × IsNeeded (statements_of bytes) s m
     unfolding variables_of
     from_float s [] k h l = absurd (omega arith)
-    from_float s (m ∷ ms) k h l = by (variable_of (stated_at bytes m)) refl k l
+    from_float s (m ∷ ms) k h l = by (λ k l. from_float s ms k h.1 l) (variable_of (stated_at bytes m)) refl k l
       where
-        rest : List ℕ
-        rest = filter_map (λ id. variable_of (statement_at (statements_of bytes) id)) ms
-
-        by : (o : Option ℕ) → variable_of (stated_at bytes m) ≡ o → (k : ℕ) → k < length (cons_option o (filter_map (λ id. variable_of (statement_at (statements_of bytes) id)) ms)) →
+        by : ((k : ℕ) → k < length (filter_map (λ id. variable_of (statement_at (statements_of bytes) id)) ms) →
+            (m : ℕ) × (variable_of (stated_at bytes m) ≡ Some (get_or (filter_map (λ id. variable_of (statement_at (statements_of bytes) id)) ms) k 0)) × IsNeeded (statements_of bytes) s m) →
+            (o : Option ℕ) → variable_of (stated_at bytes m) ≡ o → (k : ℕ) → k < length (cons_option o (filter_map (λ id. variable_of (statement_at (statements_of bytes) id)) ms)) →
             (m : ℕ) × (variable_of (stated_at bytes m) ≡ Some (get_or (cons_option o (filter_map (λ id. variable_of (statement_at (statements_of bytes) id)) ms)) k 0)) × IsNeeded (statements_of bytes) s m
-        by None e k l = from_float s ms k h.1 l
-        by (Some v) e zero l = (m, e, h.0)
-        by (Some v) e (suc k) l = from_float s ms k h.1 (omega arith)
+        by more None e k l = more k l
+        by more (Some v) e zero l = (m, e, h.0)
+        by more (Some v) e (suc k) l = more k (omega arith)
 
     found_in : (k v : ℕ) → is_hypothesis (stated_at bytes id).kind ≡ false → is_variable_of bytes v ≡ true → value_of (fresh_for bytes 1 id) (Var v) ≡ Work (k + 1) ∷ []
         → list_any (λ n. v == n) (symbols_with (statements_of bytes) (stated_at bytes id).mandatory (stated_at bytes id).symbols) ≡ true
@@ -344,3 +346,10 @@ module _ (bytes : List ℕ) where
         let y : value_of (fresh_for bytes 1 id) (Var (get_or (variables_for bytes id) k 0)) ≡ Work (k + 1) ∷ [] =
         fresh_at 1 (variables_for bytes id) k differ l ∙ ap (λ (n : ℕ). Work n ∷ []) (let q : 1 + k ≡ k + 1 = omega arith in q) in
         found_in k (get_or (variables_for bytes id) k 0) assertion w y (r.2.needed (get_or (variables_for bytes id) k 0) float)
+
+-- ## Lengths
+
+pub pattern_short : (bytes : List ℕ) (id m : ℕ) → most_symbols < length (pattern_of bytes id m) → ⊥
+pattern_short bytes id m h =
+    let s = (string_of_statement (first_setting bytes 0) m).short in
+    omega (arith, h, s, length-applied-fresh 1 (variables_for bytes id) (statement_of bytes m))

@@ -29,11 +29,11 @@ use Rattle.mm_minimize.proofs.OutcomeLemmas.{first_over, of-append, of-fronts}
 
 forbidden_more : (f : Forbidden) (u v : Pairs) → are_allowed f u ≡ false → are_allowed f (u ++ v) ≡ false
 forbidden_more f [] v h = absurd (true≢false h)
-forbidden_more f (q ∷ u) v h = by (not (f.at_end q.1)) h
+forbidden_more f (q ∷ u) v h = by (λ k. forbidden_more f u v k) (not (f.at_end q.1)) h
   where
-    by : (b : Bool) → (b && are_allowed f u) ≡ false → (b && are_allowed f (u ++ v)) ≡ false
-    by true k = forbidden_more f u v k
-    by false k = refl
+    by : (are_allowed f u ≡ false → are_allowed f (u ++ v) ≡ false) → (b : Bool) → (b && are_allowed f u) ≡ false → (b && are_allowed f (u ++ v)) ≡ false
+    by more true k = more k
+    by more false k = refl
 
 forbidden_last : (f : Forbidden) (v : Pairs) (x : WSym) (w : List WSym) → f.at_end w ≡ true → are_allowed f (v ++ (x, w) ∷ []) ≡ false
 forbidden_last f [] x w h = ap (λ (b : Bool). not b && true) h
@@ -41,11 +41,11 @@ forbidden_last f (q ∷ v) x w h = and_right (not (f.at_end q.1)) (are_allowed f
 
 nothing_kept : {A : Type 0} (p : A → Bool) (xs ys : List A) → filter p xs ≡ [] → filter p ys ≡ [] → filter p (xs ++ ys) ≡ []
 nothing_kept p [] ys h k = k
-nothing_kept p (x ∷ xs) ys h k = by (p x) h
+nothing_kept p (x ∷ xs) ys h k = by (λ e. nothing_kept p xs ys e k) (p x) h
   where
-    by : (b : Bool) → cond b (x ∷ filter p xs) (filter p xs) ≡ [] → cond b (x ∷ filter p (xs ++ ys)) (filter p (xs ++ ys)) ≡ []
-    by true e = absurd (cc)
-    by false e = nothing_kept p xs ys e k
+    by : (filter p xs ≡ [] → filter p (xs ++ ys) ≡ []) → (b : Bool) → cond b (x ∷ filter p xs) (filter p xs) ≡ [] → cond b (x ∷ filter p (xs ++ ys)) (filter p (xs ++ ys)) ≡ []
+    by more true e = absurd (cc)
+    by more false e = more e
 
 nothing_flat : {A : Type 0} (p : A → Bool) (step : ℕ → List A) → ((n : ℕ) → filter p (step n) ≡ []) → (ns : List ℕ) → filter p (flat_map step ns) ≡ []
 nothing_flat p step each [] = refl
@@ -54,15 +54,15 @@ nothing_flat p step each (n ∷ ns) = nothing_kept p (step n) (flat_map step ns)
 none_allowed : (f : Forbidden) (b : List WSym) (v : Pairs) (s : List WSym) → are_allowed f v ≡ false → filter (are_allowed f) (matches b v s) ≡ []
 none_allowed f [] v [] h = ap (λ (t : Bool). cond t (v ∷ []) []) h
 none_allowed f [] v (c ∷ s) h = refl
-none_allowed f (x ∷ b) v s h = by (known_value v x)
+none_allowed f (x ∷ b) v s h = by (λ v t k. none_allowed f b v t k) (known_value v x)
   where
-    on : (o : Option (List WSym)) → filter (are_allowed f) (onward (matches b v) o) ≡ []
-    on None = refl
-    on (Some t) = none_allowed f b v t h
+    on : ((t : List WSym) → filter (are_allowed f) (matches b v t) ≡ []) → (o : Option (List WSym)) → filter (are_allowed f) (onward (matches b v) o) ≡ []
+    on more None = refl
+    on more (Some t) = more t
 
-    by : (o : Option (List WSym)) → filter (are_allowed f) (by_value (λ v s. matches b v s) x v s o) ≡ []
-    by (Some w) = on (behind w s)
-    by None = nothing_flat (are_allowed f) (λ n. matches b (v ++ (x, take n s) ∷ []) (drop n s)) (λ n. none_allowed f b (v ++ (x, take n s) ∷ []) (drop n s) (forbidden_more f v ((x, take n s) ∷ []) h)) (lengths (length s))
+    by : ((v : Pairs) (t : List WSym) → are_allowed f v ≡ false → filter (are_allowed f) (matches b v t) ≡ []) → (o : Option (List WSym)) → filter (are_allowed f) (by_value (λ v s. matches b v s) x v s o) ≡ []
+    by more (Some w) = on (λ t. more v t h) (behind w s)
+    by more None = nothing_flat (are_allowed f) (λ n. matches b (v ++ (x, take n s) ∷ []) (drop n s)) (λ n. more (v ++ (x, take n s) ∷ []) (drop n s) (forbidden_more f v ((x, take n s) ∷ []) h)) (lengths (length s))
 
 -- ## What is found
 

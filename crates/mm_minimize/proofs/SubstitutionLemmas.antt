@@ -43,11 +43,11 @@ all_values values vs sigma i l e = e ∙ ap (with_values values) (take_all i (fr
 
 value_string : (bytes : List ℕ) (at : ℕ) (values : Pairs) (x : WSym) → AllByRecursion (λ p. IsString (first_setting bytes at) p.1) values → is_there (value_at values x) ≡ true → IsString (first_setting bytes at) (value_of values x)
 value_string bytes at [] x h t = absurd (cc)
-value_string bytes at (p ∷ values) x h t = by (is_same p.0 x) t
+value_string bytes at (p ∷ values) x h t = by (λ k. value_string bytes at values x h.1 k) (is_same p.0 x) t
   where
-    by : (b : Bool) → is_there (if b then Some p.1 else value_at values x) ≡ true → IsString (first_setting bytes at) (or_itself x (if b then Some p.1 else value_at values x))
-    by true k = h.0
-    by false k = value_string bytes at values x h.1 k
+    by : (is_there (value_at values x) ≡ true → IsString (first_setting bytes at) (value_of values x)) → (b : Bool) → is_there (if b then Some p.1 else value_at values x) ≡ true → IsString (first_setting bytes at) (or_itself x (if b then Some p.1 else value_at values x))
+    by more true k = h.0
+    by more false k = more k
 
 each_string : (bytes : List ℕ) (at : ℕ) (values : Pairs) (n : ℕ) (vs : List ℕ) → AllByRecursion (λ p. IsString (first_setting bytes at) p.1) values → ((k : ℕ) → k < length vs → is_there (value_at values (Work (n + k))) ≡ true)
     → AllByRecursion (λ p. IsString (first_setting bytes at) p.1) (with_values values (fresh_from n vs))

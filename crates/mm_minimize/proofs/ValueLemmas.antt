@@ -136,11 +136,11 @@ module _ (a : Attempt) where
 
   allowed_with : (f : Forbidden) (v : Pairs) (key : WSym) (w : List WSym) → are_allowed f v ≡ true → not (f.at_end w) ≡ true → are_allowed f (v ++ (key, w) ∷ []) ≡ true
   allowed_with f [] key w h e = and_from (not (f.at_end w)) true e refl
-  allowed_with f (q ∷ v) key w h e = by (not (f.at_end q.1)) h
+  allowed_with f (q ∷ v) key w h e = by (λ k. allowed_with f v key w k e) (not (f.at_end q.1)) h
     where
-      by : (b : Bool) → (b && are_allowed f v) ≡ true → (b && are_allowed f (v ++ (key, w) ∷ [])) ≡ true
-      by true k = allowed_with f v key w k e
-      by false k = absurd (cc)
+      by : (are_allowed f v ≡ true → are_allowed f (v ++ (key, w) ∷ []) ≡ true) → (b : Bool) → (b && are_allowed f v) ≡ true → (b && are_allowed f (v ++ (key, w) ∷ [])) ≡ true
+      by more true k = more k
+      by more false k = absurd (cc)
 
   pub values_with : (key : WSym) (rest more : List WSym) (v : Pairs) (w : List WSym) → IsString own w → not ((forbidden_in a).at_end w) ≡ true → AreValues a ((key ∷ rest) ++ more) v → AreValues a (rest ++ more) (v ++ (key, w) ∷ [])
   values_with key rest more v w string allowed h = record {

@@ -6,4 +6,5 @@ pub mod Replacing
 pub mod Serving
 pub mod Fits
 pub mod Targets
+pub mod Passages
 pub mod Trials

@@ -2,10 +2,11 @@
 
 ghost use Rattle.std.specs.Prelude.{◌≡◌, [], not, MatchOption, None, Some};
 ghost use Rattle.mm_subst.specs.Brackets.{has_number, is_balanced_by};
-ghost use Rattle.mm_subst.specs.Substitutions.{value_at, value_of};
+ghost use Rattle.mm_subst.specs.Substitutions.{value_at};
 ghost use Rattle.mm_unify.specs.Forbidden.{forbidden_by};
-ghost use Rattle.mm_unify.specs.Matching.{behind, known_value, matches};
+ghost use Rattle.mm_unify.specs.Matching.{behind, matches};
 ghost use Rattle.mm_minimize.specs.Fits.{Advances};
+ghost use Rattle.mm_minimize.specs.Passages.{IsBehindFront, Passes};
 
 use mm_subst::{Bracket, Brackets, WSym};
 use std::marker::Model;
@@ -45,7 +46,7 @@ fn behind<'a>(front: &[WSym], whole: &'a [WSym]) -> Option<&'a [WSym]>
 }
 
 /// The value of a variable.
-fn value_among<'a>(values: &'a [Bound<'a>], key: WSym) -> Option<&'a [WSym]>
+pub fn value_among<'a>(values: &[Bound<'a>], key: WSym) -> Option<&'a [WSym]>
     ensures { MatchOption result (value_at values.now key ≡ None) (λ v. value_at values.now key ≡ Some v.now) }
 {
     for bound in values {
@@ -56,24 +57,36 @@ fn value_among<'a>(values: &'a [Bound<'a>], key: WSym) -> Option<&'a [WSym]>
     None
 }
 
-/// What stands for a symbol: a value of a variable; any other symbol stands for itself.
-pub fn value_in<'a>(values: &'a [Bound<'a>], symbol: &'a WSym) -> &'a [WSym]
-    ensures { result.now ≡ value_of values.now symbol.now }
+/// What is behind a symbol of a pattern in a target.
+#[derive(Drop)]
+pub enum Passage<'a> {
+    /// The symbol is a variable without a value.
+    Free,
+    /// The target does not begin with what stands for it.
+    Differs,
+    /// What is left of the target.
+    Left(&'a [WSym]),
+}
+
+fn passage_behind<'a>(front: &[WSym], target: &'a [WSym]) -> Passage<'a>
+    ensures { IsBehindFront front.now target.now result }
 {
-    match value_among(values, *symbol) {
-        Some(value) => value,
-        None => slice::from_ref(symbol),
+    match behind(front, target) {
+        Some(left) => Passage::Left(left),
+        None => Passage::Differs,
     }
 }
 
-/// The same where it is known: a variable without a value stands for nothing yet.
-fn known_value<'a>(values: &'a [Bound<'a>], symbol: &'a WSym) -> Option<&'a [WSym]>
-    ensures { MatchOption result (known_value values.now symbol.now ≡ None) (λ w. known_value values.now symbol.now ≡ Some w.now) }
+/// Passes a symbol of a pattern.
+fn pass<'a>(values: &[Bound<'a>], symbol: WSym, target: &'a [WSym]) -> Passage<'a>
+    ensures { Passes values.now symbol target.now result }
 {
-    if symbol.is_work() {
-        value_among(values, *symbol)
-    } else {
-        Some(slice::from_ref(symbol))
+    if !symbol.is_work() {
+        return passage_behind(slice::from_ref(&symbol), target);
+    }
+    match value_among(values, symbol) {
+        Some(value) => passage_behind(value, target),
+        None => Passage::Free,
     }
 }
 
@@ -87,13 +100,11 @@ pub fn advance<'p, 'a>(
 {
     let mut left = target;
     for (at, symbol) in pattern.iter().enumerate() {
-        let Some(front) = known_value(values, symbol) else {
-            return Some((&pattern[at..], left));
-        };
-        let Some(rest) = behind(front, left) else {
-            return None;
-        };
-        left = rest;
+        match pass(values, *symbol, left) {
+            Passage::Free => return Some((&pattern[at..], left)),
+            Passage::Differs => return None,
+            Passage::Left(rest) => left = rest,
+        }
     }
     Some((&pattern[pattern.len()..], left))
 }

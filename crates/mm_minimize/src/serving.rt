@@ -4,7 +4,8 @@ ghost use Rattle.std.specs.Prelude.{◌≡◌, ◌≤◌, ◌<◌, ◌∷◌, []
 ghost use Rattle.std.specs.List.{list_all};
 ghost use Rattle.mm_scope.specs.Contents.{labels_of};
 ghost use Rattle.mm_scope.specs.Laws.{AllDiffer};
-ghost use Rattle.mm_subst.specs.Substitutions.{with_values};
+ghost use Rattle.mm_subst.specs.Substitutions.{value_of, with_values};
+ghost use Rattle.mm_subst.specs.declared.symbol.WSym.TheVariants.{Work};
 ghost use Rattle.mm_plain.specs.Drawing.{fresh_from};
 ghost use Rattle.mm_plain.specs.Premises.{premise_ids};
 ghost use Rattle.mm_plain.specs.Valid.{most_works};
@@ -14,7 +15,7 @@ ghost use Rattle.mm_minimize.specs.Serving.{is_met};
 ghost use Rattle.mm_minimize.specs.Trials.{AreValues, IsAttempt, first_in, terms_of};
 
 use crate::attempt::Attempt;
-use crate::fitting::{Bound, value_in};
+use crate::fitting::{Bound, value_among};
 use mm_improve::{are_apart, is_essential};
 use mm_scope::StmtId;
 use mm_subst::{Memory, Subst, WStr, WSym};
@@ -37,6 +38,17 @@ impl Model for Serving {
     ghost view = { λ s. record { sigma = s.sigma; steps = s.steps.items } };
 }
 
+/// What stands for a work variable.
+fn value_of(alloc: Global, values: &[Bound<'_>], number: u32) -> Result<WStr, Memory>
+    ensures { IfOk result (λ s. s ≡ value_of values.now (Work number)) }
+{
+    let key = WSym::Work(number);
+    match value_among(values, key) {
+        Some(value) => WStr::new(alloc, value),
+        None => WStr::new(alloc, &[key]),
+    }
+}
+
 /// The substitution that puts for each variable the value of its work variable.
 fn substitution(alloc: Global, variables: &[u32], values: &[Bound<'_>]) -> Result<Subst, Memory>
     requires differ { AllDiffer variables.now }
@@ -46,7 +58,7 @@ fn substitution(alloc: Global, variables: &[u32], values: &[Bound<'_>]) -> Resul
     let mut sigma = Subst::new(alloc);
     let mut number = 1;
     for variable in variables {
-        let value = WStr::new(alloc, value_in(values, &WSym::Work(number)))?;
+        let value = value_of(alloc, values, number)?;
         sigma.put(alloc, WSym::Var(*variable), value)?;
         number += 1;
     }
