@@ -10,3 +10,5 @@ pub mod SearchLemmas
 pub mod ValueLemmas
 pub mod SubstitutionLemmas
 pub mod StepLemmas
+pub mod TargetLemmas
+pub mod FrontLemmas

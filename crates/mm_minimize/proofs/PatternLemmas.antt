@@ -237,15 +237,15 @@ has_applied theta (z ∷ s) x y h e =
 
 differs_at : (v : ℕ) (vs : List ℕ) (k : ℕ) → list_any (λ n. v == n) vs ≡ false → k < length vs → (v == get_or vs k 0) ≡ false
 differs_at v [] k h l = absurd (omega arith)
-differs_at v (w ∷ vs) k h l = at k l (neither (v == w) h)
+differs_at v (w ∷ vs) k h l = at (λ j q m. differs_at v vs j q m) k l (neither (v == w) h)
   where
     neither : (b : Bool) → (b || list_any (λ n. v == n) vs) ≡ false → (b ≡ false) × (list_any (λ n. v == n) vs ≡ false)
     neither true q = absurd (true≢false q)
     neither false q = (refl, q)
 
-    at : (k : ℕ) → k < length (w ∷ vs) → ((v == w) ≡ false) × (list_any (λ n. v == n) vs ≡ false) → (v == get_or (w ∷ vs) k 0) ≡ false
-    at zero l q = q.0
-    at (suc k) l q = differs_at v vs k q.1 (omega arith)
+    at : ((j : ℕ) → list_any (λ n. v == n) vs ≡ false → j < length vs → (v == get_or vs j 0) ≡ false) → (k : ℕ) → k < length (w ∷ vs) → ((v == w) ≡ false) × (list_any (λ n. v == n) vs ≡ false) → (v == get_or (w ∷ vs) k 0) ≡ false
+    at more zero l q = q.0
+    at more (suc k) l q = more k q.1 (omega arith)
 
 -- the work variable of a variable
 fresh_at : (n : ℕ) (vs : List ℕ) (k : ℕ) → AllDiffer vs → k < length vs → value_of (fresh_from n vs) (Var (get_or vs k 0)) ≡ Work (n + k) ∷ []

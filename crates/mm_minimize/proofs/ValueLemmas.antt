@@ -63,7 +63,8 @@ module _ (a : Attempt) where
   flat_drop : (hs : List (List WSym)) (i : ℕ) → i < length hs → flat_map (λ (h : List WSym). h) (drop i hs) ≡ get_or hs i [] ++ flat_map (λ (h : List WSym). h) (drop (i + 1) hs)
   flat_drop [] i l = absurd (omega arith)
   flat_drop (h ∷ hs) zero l = refl
-  flat_drop (h ∷ hs) (suc i) l = flat_drop hs i (omega arith)
+  flat_drop (h ∷ hs) (suc i) l =
+      flat_drop hs i (omega arith) ∙ ap (λ (n : ℕ). get_or hs i [] ++ flat_map (λ (h : List WSym). h) (drop n (h ∷ hs))) (let q : suc (i + 1) ≡ suc i + 1 = omega arith in q)
 
   pub rest_next : (level : ℕ) → level < length a.trial.now.essentials.items → rest_of a level ≡ get_or a.trial.now.essentials.items level [] ++ rest_of a (level + 1)
   rest_next level l = flat_drop a.trial.now.essentials.items level l
@@ -71,7 +72,7 @@ module _ (a : Attempt) where
   left_drop : (hs : List (List WSym)) (i : ℕ) → i < length hs → drop i hs ≡ get_or hs i [] ∷ drop (i + 1) hs
   left_drop [] i l = absurd (omega arith)
   left_drop (h ∷ hs) zero l = refl
-  left_drop (h ∷ hs) (suc i) l = left_drop hs i (omega arith)
+  left_drop (h ∷ hs) (suc i) l = left_drop hs i (omega arith) ∙ ap (λ (n : ℕ). get_or hs i [] ∷ drop n (h ∷ hs)) (let q : suc (i + 1) ≡ suc i + 1 = omega arith in q)
 
   pub left_next : (level : ℕ) → level < length a.trial.now.essentials.items → left_after a level ≡ get_or a.trial.now.essentials.items level [] ∷ left_after a (level + 1)
   left_next level l = left_drop a.trial.now.essentials.items level l

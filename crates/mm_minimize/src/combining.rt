@@ -14,7 +14,7 @@ ghost use Rattle.mm_minimize.specs.Trials.{AreValues, IsAttempt, IsPart, IsTrial
 
 use crate::attempt::Attempt;
 use crate::fitting::{Bound, advance, is_allowed};
-use crate::serving::{Serving, serving};
+use crate::serving::{Serving, if_serves};
 use crate::targets::Targets;
 use crate::trial::Trial;
 use mm_improve::Prover;
@@ -40,7 +40,7 @@ fn next<'a>(
     ensures steps { OnOk result (steps.new.items ≡ steps.old.items) }
 {
     if level == attempt.trial.essentials.len() {
-        return serving(alloc, attempt, values.as_slice(), steps.as_slice());
+        return if_serves(alloc, attempt, values.as_slice(), steps.as_slice());
     }
     let pattern = attempt.trial.essentials[level].symbols();
     for target in attempt.targets.different() {
@@ -113,9 +113,10 @@ fn extend<'a>(
     ensures values { OnOk result (values.new.items ≡ values.old.items) }
     ensures steps { OnOk result (steps.new.items ≡ steps.old.items) }
 {
+    let prover = attempt.prover;
     for last in 0..target.len() {
         let (value, left) = target.split_at(last + 1);
-        if is_allowed(&attempt.prover.parts.brackets, value) {
+        if is_allowed(&prover.parts.brackets, value) {
             values.push(Bound { key, value })?;
             let found = walk(alloc, attempt, level, rest, left, values, steps)?;
             values.pop();

@@ -93,7 +93,7 @@ fn are_met(alloc: Global, attempt: &Attempt<'_>, sigma: &Subst) -> Result<bool, 
 }
 
 /// A combination, if it serves.
-pub fn serving(
+pub fn if_serves(
     alloc: Global,
     attempt: &Attempt<'_>,
     values: &[Bound<'_>],
@@ -104,8 +104,9 @@ pub fn serving(
     ensures { IfOk result (λ o. o ≡ first_in attempt.now (record { values = values.now; steps = steps.now } ∷ [])) }
 {
     let trial = attempt.trial;
+    let prover = attempt.prover;
     let sigma = substitution(alloc, trial.variables.as_slice(), values)?;
-    if !are_apart(attempt.db, &attempt.prover.parts.groups, trial.id, &sigma) {
+    if !are_apart(attempt.db, &prover.parts.groups, trial.id, &sigma) {
         return Ok(None);
     }
     if !are_met(alloc, attempt, &sigma)? {

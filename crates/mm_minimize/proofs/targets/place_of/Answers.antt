@@ -1,8 +1,11 @@
 use Rattle.std.proofs.Common.{◌≡◌, List, ap, sym, ◌∙◌}
 use Rattle.std.proofs.lemmas.List.{get_or_default}
-use Rattle.mm_sound.proofs.Strings.{same_string}
-use Rattle.mm_minimize.specs.Targets.{no_target, string_at}
+use Rattle.mm_minimize.specs.Targets.{no_target}
+use Rattle.mm_minimize.specs.declared.target.Target.{Target}
+use Rattle.mm_minimize.proofs.TargetLemmas.{same_string}
 use Rattle.mm_minimize.proofs.targets.place_of.Goals as goal
 
 pub returns-then-is_same_string-clause-is : goal.returns-then-is_same_string-clause-is
-returns-then-is_same_string-clause-is c = ?
+returns-then-is_same_string-clause-is c =
+    ap (λ (t : Target). t.string) (get_or_default c.args.different.now c.loop-n.n no_target c.index-different-n.result c.loop-n-test.true ∙ sym c.index-different-n.is)
+    ∙ sym c.symbols.ensures ∙ same_string c.symbols.result.now c.args.string.now (sym c.if-is_same_string.ensures)
