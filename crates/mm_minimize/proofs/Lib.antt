@@ -12,3 +12,4 @@ pub mod SubstitutionLemmas
 pub mod StepLemmas
 pub mod TargetLemmas
 pub mod FrontLemmas
+pub mod TryLemmas

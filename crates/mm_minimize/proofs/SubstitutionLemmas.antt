@@ -1,5 +1,5 @@
 -- The substitution that puts for each variable the value of its work variable.
-use Rattle.std.proofs.Common.{◌≡◌, ◌≤◌, ◌<◌, ◌+◌, ℕ, zero, suc, Bool, true, false, List, [], ◌∷◌, ◌++◌, length, map, take, drop, get_or, Option, None, Some, refl, sym, ◌∙◌, ap, subst, arith, inl, inr, if◌then◌else◌}
+use Rattle.std.proofs.Common.{◌≡◌, ◌≤◌, ◌<◌, ◌+◌, ℕ, zero, suc, Bool, true, false, List, [], ◌∷◌, ◌++◌, length, map, take, drop, get_or, Option, None, Some, cond, ◌&&◌, refl, sym, ◌∙◌, ap, subst, arith, inl, inr, if◌then◌else◌}
 use Rattle.std.specs.List.{All, AllByRecursion}
 use Rattle.std.specs.Option.{option_map}
 use Rattle.std.proofs.lemmas.List.{map-append, take_all}
@@ -63,3 +63,16 @@ pub substitution_strings : (bytes : List ℕ) (at : ℕ) (values : Pairs) (vs : 
 substitution_strings bytes at values vs h t =
     All-from_recursion (λ p. IsString (first_setting bytes at) p.1) (with_values values (fresh_from 1 vs))
     (each_string bytes at values 1 vs h (λ k l. ap (λ (m : ℕ). is_there (value_at values (Work m))) (let q : 1 + k ≡ k + 1 = omega arith in q) ∙ t k l))
+
+-- ## What serves
+
+-- whether the distinct pairs hold, and the goals have proofs, decides
+pub served : {A : Type 0} (a b : Bool) (x y : A) → a ≡ true → b ≡ true → x ≡ y → Some x ≡ cond (a && b) (Some y) None
+served a b x y e f g = ap (λ (z : _). Some z) g ∙ sym (ap (λ (t : Bool). cond (t && b) (Some y) None) e ∙ ap (λ (t : Bool). cond t (Some y) None) f)
+
+pub not_apart : {A : Type 0} (a b : Bool) (y : A) → a ≡ false → None ≡ cond (a && b) (Some y) None
+not_apart a b y e = sym (ap (λ (t : Bool). cond (t && b) (Some y) None) e)
+
+pub not_met : {A : Type 0} (a b : Bool) (y : A) → b ≡ false → None ≡ cond (a && b) (Some y) None
+not_met true b y e = sym (ap (λ (t : Bool). cond t (Some y) None) e)
+not_met false b y e = refl

@@ -1,12 +1,12 @@
 -- The targets of the steps, by their places among different strings.
-use Rattle.std.proofs.Common.{◌≡◌, ◌≤◌, ◌<◌, ◌+◌, ◌-◌, ℕ, zero, suc, Bool, true, false, List, [], ◌∷◌, ◌++◌, length, map, get_or, refl, sym, ◌∙◌, ap, subst, arith, inl, inr, length-append}
+use Rattle.std.proofs.Common.{◌≡◌, ◌≤◌, ◌<◌, ◌+◌, ◌-◌, ℕ, zero, suc, Bool, true, false, List, [], ◌∷◌, ◌++◌, length, map, get_or, Result, Ok, Err, OnErr, is_ok, if◌then◌else◌, ◌⊎◌, refl, sym, ◌∙◌, ap, subst, arith, inl, inr, length-append}
 use Rattle.std.specs.Cmp.Lexicographic.{pointwise}
 use Rattle.std.proofs.lemmas.Bool.{and_parts, cases_lt, false≢true}
 use Rattle.std.proofs.lemmas.List.{get_or_append_left, get_or-map, length-map, map-append}
 use Rattle.mm_subst.specs.declared.symbol.WSym.{WSym}
 use Rattle.mm_subst.specs.Symbols.{is_same}
 use Rattle.mm_subst.proofs.Keys.{is_same-true}
-use Rattle.mm_minimize.specs.Targets.{AreFirsts, AreNumbered, first_at, no_target, string_at, strings_by}
+use Rattle.mm_minimize.specs.Targets.{AreFirsts, AreNumbered, IsPlaced, first_at, no_target, string_at, strings_by}
 use Rattle.mm_minimize.specs.declared.target.Target.{Target}
 
 -- the test tells strings apart
@@ -156,3 +156,23 @@ view_new ds ns t h =
     strings_more (ds ++ t ∷ []) ns (length ds)
     ∙ ap (λ (ss : List (List WSym)). ss ++ string_at (ds ++ t ∷ []) (length ds) ∷ []) (strings_grown ds t ns h.within)
     ∙ ap (λ (u : Target). strings_by ds ns ++ u.string ∷ []) (last_target ds t)
+
+-- a push that had room
+pub had_room : {A E : Type 0} (r : Result A E) (X : Type 0) → OnErr r X → (X → ⊥) → is_ok r ≡ true
+had_room (Ok a) X h f = refl
+had_room (Err e) X h f = absurd (f h)
+
+pub pushed : {A E B : Type 0} (r : Result A E) (X : Type 0) (new old : List B) (x : B) → OnErr r X → (X → ⊥) → new ≡ (if is_ok r then old ++ x ∷ [] else old) → new ≡ old ++ x ∷ []
+pushed r X new old x h f e = e ∙ ap (λ (b : Bool). if b then old ++ x ∷ [] else old) (had_room r X h f)
+
+pub numbered_placed : (old new : List Target) (ns ms : List ℕ) (s : List WSym) (n : ℕ) → AreNumbered old ns → IsPlaced old new (length ns) s n → ms ≡ ns ++ n ∷ [] → AreNumbered new ms
+numbered_placed old new ns ms s n h (inl p) e =
+    subst (AreNumbered new) (sym e) (subst (λ (ds : List Target). AreNumbered ds (ns ++ n ∷ [])) (sym p.0) (numbered_again old ns n h p.1))
+numbered_placed old new ns ms s n h (inr p) e =
+    subst (AreNumbered new) (sym (e ∙ ap (λ (m : ℕ). ns ++ m ∷ []) p.1)) (subst (λ (ds : List Target). AreNumbered ds (ns ++ length old ∷ [])) (sym p.0) (numbered_new old ns (record { string = s; first = length ns + 1 }) h refl))
+
+pub view_placed : (old new : List Target) (ns ms : List ℕ) (s : List WSym) (n : ℕ) → AreNumbered old ns → IsPlaced old new (length ns) s n → ms ≡ ns ++ n ∷ [] → strings_by new ms ≡ strings_by old ns ++ s ∷ []
+view_placed old new ns ms s n h (inl p) e =
+    ap (strings_by new) e ∙ ap (λ (ds : List Target). strings_by ds (ns ++ n ∷ [])) p.0 ∙ view_again old ns n s p.2
+view_placed old new ns ms s n h (inr p) e =
+    ap (strings_by new) (e ∙ ap (λ (m : ℕ). ns ++ m ∷ []) p.1) ∙ ap (λ (ds : List Target). strings_by ds (ns ++ length old ∷ [])) p.0 ∙ view_new old ns (record { string = s; first = length ns + 1 }) h

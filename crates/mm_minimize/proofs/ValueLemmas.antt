@@ -19,6 +19,8 @@ use Rattle.mm_plain.specs.Valid.{IsKnownSymbol, IsString, Setting, first_setting
 use Rattle.mm_chart.specs.Options.{is_there}
 use Rattle.mm_minimize.specs.Combinations.{essentials_of, pattern_of}
 use Rattle.mm_minimize.specs.Fits.{HasSymbol, IsBehind}
+use Rattle.mm_minimize.specs.Targets.{AreFirsts, first_at, string_at}
+use Rattle.mm_minimize.specs.declared.target.Target.{Target}
 use Rattle.mm_minimize.specs.Trials.{AreValues, IsAttempt, IsPart, forbidden_in, left_after, rest_of}
 use Rattle.mm_minimize.specs.declared.attempt.Attempt.{Attempt}
 use Rattle.mm_minimize.proofs.PatternLemmas.{has_either, has_left, has_right, variable_in}
@@ -57,6 +59,12 @@ module _ (a : Attempt) where
 
   pub part_drop : (n : ℕ) (target : List WSym) → IsPart a target → IsPart a (drop n target)
   part_drop n target h = record { string = string_right own (take n target) (drop n target) (subst (IsString own) (sym (take-append-drop n target)) h.string) }
+
+  -- a string among the targets is a part of one
+  pub part_own : (ds : List Target) (d : ℕ) → IsAttempt a → AreFirsts ds a.targets.now → d < length ds → IsPart a (string_at ds d)
+  part_own ds d h firsts there =
+      let o = firsts.own d there in
+      record { string = subst (IsString own) o.2 (h.strings (first_at ds d - 1) [] (omega (arith, o.0, o.1))) }
 
   -- ## What is left
 

@@ -1,5 +1,5 @@
 -- The targets of the steps of a proof, each different string once.
-use Rattle.std.specs.Prelude.{◌≡◌, ◌≤◌, ◌<◌, ◌+◌, ◌-◌, ℕ, List, [], map, length, slice_index_or}
+use Rattle.std.specs.Prelude.{◌≡◌, ◌⊎◌, ◌∷◌, ◌++◌, ◌≤◌, ◌<◌, ◌+◌, ◌-◌, ℕ, List, [], map, length, slice_index_or}
 use Rattle.mm_subst.specs.declared.symbol.WSym.{WSym}
 use Rattle.mm_minimize.specs.declared.target.Target.{Target}
 
@@ -29,3 +29,7 @@ pub record AreFirsts (ds : List Target) (targets : List (List WSym)) : Type 0 wh
   pub rising : (i j : ℕ) → i < j → j < length ds → first_at ds i < first_at ds j
   pub own : (i : ℕ) → i < length ds → (1 ≤ first_at ds i) × (first_at ds i ≤ length targets) × (slice_index_or targets (first_at ds i - 1) [] ≡ string_at ds i)
   pub all : (k : ℕ) → k < length targets → (i : ℕ) × (i < length ds) × (first_at ds i ≤ k + 1) × (string_at ds i ≡ slice_index_or targets k [])
+
+-- the place of a string: one that has it, or a new one for the next step
+abbrev pub IsPlaced : List Target → List Target → ℕ → List WSym → ℕ → Type 0
+IsPlaced old new count s n = ((new ≡ old) × (n < length old) × (string_at old n ≡ s)) ⊎ ((new ≡ old ++ record { string = s; first = count + 1 } ∷ []) × (n ≡ length old))

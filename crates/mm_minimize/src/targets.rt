@@ -1,11 +1,11 @@
 //! The targets of the steps of a proof.
 
-ghost use Rattle.std.specs.Prelude.{◌≡◌, ◌≤◌, ◌<◌, ◌++◌, ◌∷◌, [], length, IfSome, OnErr, OnOk};
+ghost use Rattle.std.specs.Prelude.{◌≡◌, ◌≤◌, ◌<◌, ◌++◌, ◌∷◌, [], length, IfOk, IfSome, OnErr, OnOk};
 ghost use Rattle.std.specs.Cmp.Lexicographic.{pointwise};
 ghost use Rattle.mm_subst.specs.Symbols.{is_same};
 ghost use Rattle.mm_plain.specs.Valid.{most_steps};
 ghost use Rattle.mm_minimize.specs.Serving.{target_in};
-ghost use Rattle.mm_minimize.specs.Targets.{AreFirsts, string_at};
+ghost use Rattle.mm_minimize.specs.Targets.{AreFirsts, IsPlaced, string_at};
 
 use crate::target::Target;
 use mm_subst::{WStr, WSym};
@@ -60,6 +60,24 @@ fn place_of(different: &[Target], string: &[WSym]) -> Option<usize>
     None
 }
 
+/// The place of the target of the next step, which is appended where it is new.
+fn place_for(different: &mut Vec<Target>, count: usize, target: WStr) -> Result<usize, AllocError>
+    requires { count < most_steps }
+    ensures place { IfOk result (λ n. IsPlaced different.old.items different.new.items count target n) }
+    ensures err { OnErr result (different.new.items ≡ different.old.items) }
+{
+    if let Some(number) = place_of(different.as_slice(), target.symbols()) {
+        return Ok(number);
+    }
+    let number = different.len();
+    let first = count as u32 + 1;
+    different.push(Target {
+        string: target,
+        first,
+    })?;
+    Ok(number)
+}
+
 impl Targets {
     /// The targets of no step. This takes no memory.
     pub fn new(alloc: Global) -> Targets
@@ -78,17 +96,7 @@ impl Targets {
         ensures err { OnErr result (self.new ≡ self.old) }
     {
         self.numbers.reserve(1)?;
-        let number = match place_of(self.different.as_slice(), target.symbols()) {
-            Some(number) => number,
-            None => {
-                let first = self.numbers.len() as u32 + 1;
-                self.different.push(Target {
-                    string: target,
-                    first,
-                })?;
-                self.different.len() - 1
-            }
-        };
+        let number = place_for(&mut self.different, self.numbers.len(), target)?;
         self.numbers.push(number)?;
         Ok(())
     }

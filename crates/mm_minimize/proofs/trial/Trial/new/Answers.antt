@@ -30,6 +30,6 @@ returns c =
       few = omega (arith, few, ap (λ (xs : List ℕ). length xs) vs, c.as_slice.ensures.len);
       conclusion = c.in_ok-conclusion.ensures ∙ ap (λ (s : Pairs). applied s (statement_of bytes id)) fresh;
       essentials = c.in_ok-essentials.ensures
-          ∙ ap (λ (s : Pairs). map (λ m. applied s (statement_of bytes m)) (filter (λ m. is_essential (stated_at bytes m).kind) c.hypotheses.result.now)) fresh
-          ∙ ap (λ (ms : List ℕ). map (λ m. applied (fresh_for bytes 1 id) (statement_of bytes m)) (filter (λ m. is_essential (stated_at bytes m).kind) ms)) c.hypotheses.ensures.ids;
+          ∙ ap (λ (s : Pairs). map (λ m. applied s (statement_of bytes m)) (filter (λ m. is_essential (stated_at bytes m).kind) c.premises.result.now)) fresh
+          ∙ ap (λ (ms : List ℕ). map (λ m. applied (fresh_for bytes 1 id) (statement_of bytes m)) (filter (λ m. is_essential (stated_at bytes m).kind) ms)) c.premises.ensures.ids;
     }
