@@ -15,6 +15,10 @@ behind_nothing (x ∷ front) [] zero l e = refl
 behind_nothing (x ∷ front) (y ∷ left) zero l e = absurd (omega arith)
 behind_nothing (x ∷ front) left (suc i) l e = behind_nothing front left i (omega arith) e
 
+pub empty_is : (s : List WSym) → length s ≡ 0 → s ≡ []
+empty_is [] e = refl
+empty_is (x ∷ s) e = absurd (omega arith)
+
 -- one symbol at a place and the rest behind it
 pub drop_at : (s : List WSym) (i : ℕ) (x d : WSym) → i < length s → x ≡ get_or s i d → drop i s ≡ x ∷ drop (i + 1) s
 drop_at [] i x d l e = absurd (omega arith)

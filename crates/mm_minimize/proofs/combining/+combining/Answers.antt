@@ -1,4 +1,4 @@
-use Rattle.std.proofs.Common.{◌≡◌, ◌≤◌, ◌<◌, ◌+◌, ◌-◌, ◌*◌, ℕ, Bool, true, false, not, List, [], ◌∷◌, ◌++◌, length, take, drop, get_or, Option, None, Some, IfOk, is_some, refl, sym, ◌∙◌, ap, subst, arith, inl, inr}
+use Rattle.std.proofs.Common.{◌≡◌, ◌≤◌, ◌<◌, ◌+◌, ◌-◌, ◌*◌, ℕ, suc, Bool, true, false, not, List, [], ◌∷◌, ◌++◌, length, take, drop, get_or, Option, None, Some, IfOk, is_some, refl, sym, ◌∙◌, ap, subst, arith, inl, inr}
 use Rattle.std.proofs.lemmas.Bool.{cases_lt}
 use Rattle.std.proofs.lemmas.List.{get_or_default}
 use Rattle.mm_subst.specs.declared.symbol.WSym.{WSym}
@@ -7,13 +7,14 @@ use Rattle.mm_subst.specs.Substitutions.{Pairs}
 use Rattle.mm_unify.specs.Forbidden.{forbidden_by, heeded}
 use Rattle.mm_chart.specs.Items.{Grammar}
 use Rattle.mm_improve.specs.declared.prover.Prover.{Prover}
-use Rattle.mm_minimize.specs.Fits.{IsFree}
+use Rattle.mm_minimize.specs.Fits.{Advances, IsFree}
 use Rattle.mm_minimize.specs.Serving.{Serving}
 use Rattle.mm_minimize.specs.Targets.{AreFirsts, first_at, no_target, string_at}
 use Rattle.mm_minimize.specs.Trials.{AreValues, IsPart, first_in, rest_of}
 use Rattle.mm_minimize.specs.declared.attempt.Attempt.{Attempt}
 use Rattle.mm_minimize.specs.declared.target.Target.{Target}
 use Rattle.mm_minimize.proofs.StepLemmas.{extended-here, extended-none, forbidden_front, front-forbidden, front-none, front-told, nexts-end, nexts-here, nexts-none, nexts-stop, nothing, popped, step-told, step_gives}
+use Rattle.mm_minimize.proofs.FrontLemmas.{empty_is}
 use borrow.Author.Count.{below_more}
 use Rattle.mm_minimize.proofs.ValueLemmas.{part_behind, part_drop, part_own, part_take, rest_next, values_by, values_pass, values_with, weight, weight_next}
 use Rattle.mm_minimize.proofs.combining.+combining.Goals as goal
@@ -175,14 +176,24 @@ next-returns-clause-first t c =
 pub walk-extend-requires : goal.walk-extend-requires
 walk-extend-requires t c =
     let a : Attempt = c.args.attempt.now in
-    let h = c.in-Some.ensures in
+    let v : Pairs = c.args.values.now.items in
+    let more : List WSym = rest_of c.args.attempt.now c.args.level in
+    let told : Advances c.args.values.now.items c.args.pattern.now c.args.target.now c.in-Some.rest.now c.in-Some.left.now = subst (λ (vs : Pairs). Advances vs c.args.pattern.now c.args.target.now c.in-Some.rest.now c.in-Some.left.now) c.as_slice.ensures.value c.in-Some.ensures in
     let split : c.in-Some.rest.now ≡ c.in-Some-split_first.key.now ∷ c.in-Some-split_first.rest.now = c.in-Some-split_first.ensures.cases.0 in
-    let long = c.in-Some-split_first.ensures.cases.1 in
-    ?
+    let long : length c.in-Some.rest.now ≡ suc (length c.in-Some-split_first.rest.now) = ap (λ (s : List WSym). length s) split in
+    let short = told.behind.shorter in
+    (omega (arith, c.decreases, long, short), (c.requires.attempt, (c.requires.level, (part_behind a c.args.target.now told.behind.passed c.in-Some.left.now told.behind.whole c.requires.part,
+      (subst (IsFree c.args.values.now.items) split told.free,
+        values_by a (c.in-Some.rest.now ++ rest_of c.args.attempt.now c.args.level) (c.in-Some-split_first.key.now ∷ (c.in-Some-split_first.rest.now ++ rest_of c.args.attempt.now c.args.level)) v (ap (λ (s : List WSym). s ++ rest_of c.args.attempt.now c.args.level) split)
+        (values_pass a c.args.pattern.now c.args.target.now c.in-Some.rest.now c.in-Some.left.now more v told.behind c.requires.values))))))
 
 pub walk-next-requires : goal.walk-next-requires
 walk-next-requires t c =
     let a : Attempt = c.args.attempt.now in
-    let h = c.in-Some.ensures in
-    let empty = c.in-None.ensures.cases in
-    ?
+    let v : Pairs = c.args.values.now.items in
+    let more : List WSym = rest_of c.args.attempt.now c.args.level in
+    let told : Advances c.args.values.now.items c.args.pattern.now c.args.target.now c.in-Some.rest.now c.in-Some.left.now = subst (λ (vs : Pairs). Advances vs c.args.pattern.now c.args.target.now c.in-Some.rest.now c.in-Some.left.now) c.as_slice.ensures.value c.in-Some.ensures in
+    let nil : c.in-Some.rest.now ≡ [] = empty_is c.in-Some.rest.now c.in-None.ensures.cases in
+    (omega (arith, c.decreases), (c.requires.attempt, (c.requires.level,
+      values_by a (c.in-Some.rest.now ++ rest_of c.args.attempt.now c.args.level) (rest_of c.args.attempt.now c.args.level) v (ap (λ (s : List WSym). s ++ rest_of c.args.attempt.now c.args.level) nil)
+      (values_pass a c.args.pattern.now c.args.target.now c.in-Some.rest.now c.in-Some.left.now more v told.behind c.requires.values))))
