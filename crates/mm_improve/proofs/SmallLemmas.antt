@@ -1,21 +1,17 @@
 -- A layout tells whether a proof is too large.
-use Rattle.std.proofs.Common.{◌≡◌, ◌≤◌, ◌<◌, ◌+◌, ◌&&◌, ℕ, Bool, true, false, List, [], ◌∷◌, ◌++◌, Option, None, Some, Result, Ok, Err, refl, sym, ◌∙◌, ap, subst, arith}
+use Rattle.std.proofs.Common.{◌≡◌, ◌≤◌, ◌<◌, ◌+◌, ℕ, Bool, true, false, List, [], ◌∷◌, ◌++◌, Option, None, Some, Ok, Err, refl, sym, ◌∙◌, ap, arith}
 use Rattle.std.specs.Prelude.{nat_le}
 use Rattle.std.specs.List.{sum_by}
 use Rattle.std.proofs.lemmas.Bool.{and_from, and_left, and_right}
 use Rattle.std.proofs.lemmas.Bool.Decides.{nat_tests}
 use Rattle.std.proofs.lemmas.List.Sums.{sum_by-cons}
-use Rattle.mm_subst.specs.declared.symbol.WSym.{WSym}
 use Rattle.mm_plain.specs.declared.plain.Plain.{Plain}
-use Rattle.mm_plain.specs.Lengths.{is_long}
 use Rattle.mm_plain.specs.Shape.{size_of, height_of}
 use Rattle.mm_plain.specs.Valid.{most_steps, most_levels}
-use Rattle.mm_tree.specs.Plans.{AreFit, IsPlan, grove_of, no_grove, with_step, with_steps}
+use Rattle.mm_tree.specs.Plans.{AreFit, grove_of, no_grove, with_step, with_steps}
 use Rattle.mm_tree.specs.declared.plan.Plan.{Plan}
 use Rattle.mm_tree.specs.declared.plan.PlanStep.{PlanStep}
-use Rattle.mm_improve.specs.Assertions.{Terms}
 use Rattle.mm_improve.specs.Laying.{LaysFound, steps_in}
-use Rattle.mm_improve.specs.Proving.{chosen_tree}
 use Rattle.mm_improve.specs.Small.{is_small}
 use Rattle.mm_improve.specs.declared.fault.ImproveFault.{ImproveFault}
 use Rattle.mm_improve.specs.declared.fault.ImproveFault.TheVariants.{TooManySteps, TooDeep, Memory}

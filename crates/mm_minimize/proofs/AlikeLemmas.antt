@@ -1,28 +1,18 @@
 -- The first combination that serves may be looked for by plain matches.
-use Rattle.std.proofs.Common.{◌≡◌, ◌≤◌, ◌<◌, ◌-◌, ℕ, zero, suc, Bool, true, false, List, [], ◌∷◌, ◌++◌, length, map, filter, Option, Some, refl, sym, ◌∙◌, ap, subst, arith}
-use Rattle.std.specs.List.{All, AllByRecursion, flat_map}
-use Rattle.std.proofs.lemmas.Bool.{cases_lt}
-use Rattle.std.proofs.lemmas.List.Elements.{recursion_from_All}
-use Rattle.std.proofs.Math.ListN.{get_or-eq_default}
-use Rattle.mm_scope.specs.Contents.{labels_of, stated_at}
-use Rattle.mm_stated.specs.Stated.{is_essential}
+use Rattle.std.proofs.Common.{◌≡◌, ◌≤◌, ℕ, false, List, [], ◌∷◌, ◌++◌, length, map, Option, refl, sym, ◌∙◌, ap, subst}
+use Rattle.std.specs.List.{AllByRecursion, flat_map}
 use Rattle.mm_subst.specs.declared.symbol.WSym.{WSym}
-use Rattle.mm_subst.specs.declared.symbol.WSym.TheVariants.{Const}
 use Rattle.mm_subst.specs.Applied.{most_symbols}
-use Rattle.mm_subst.specs.Statements.{statement_of}
 use Rattle.mm_subst.specs.Substitutions.{Pairs, applied, with_values}
 use Rattle.mm_subst.specs.Symbols.{has_work, is_work}
 use Rattle.mm_unify.specs.Forbidden.{Forbidden, forbidden, heeded}
 use Rattle.mm_plain.specs.declared.plain.Plain.{Plain}
 use Rattle.mm_plain.specs.Drawing.{fresh_for}
-use Rattle.mm_plain.specs.Premises.{premise_ids}
-use Rattle.mm_plain.specs.Valid.{IsString, first_setting}
 use Rattle.mm_chart.specs.Options.{first}
 use Rattle.mm_improve.specs.Assertions as improve
-use Rattle.mm_improve.proofs.FoundValues.{string_no_work}
 use Rattle.mm_minimize.specs.Combinations.{Combination, combinations, combinations_by, essentials_of, extensions, pattern_of, steps_below}
 use Rattle.mm_minimize.specs.Fits.{fits}
-use Rattle.mm_minimize.specs.Serving.{first_of, first_serving, serves, serving_by, target_in}
+use Rattle.mm_minimize.specs.Serving.{first_of, serves, serving_by}
 use Rattle.mm_minimize.proofs.MatchLemmas.{Alike, AreAlike, AreFine, alike_lists, applied_alike, fine_none, fits_fine}
 
 -- ## Combinations that mean the same

@@ -1,11 +1,10 @@
 -- The patterns of an assertion: each begins with a constant, and each of its variables is in one of them.
-use Rattle.std.proofs.Common.{◌≡◌, ◌≤◌, ◌<◌, ◌+◌, ◌==◌, ◌||◌, ℕ, zero, suc, Bool, true, false, cond, if◌then◌else◌, List, [], ◌∷◌, ◌++◌, length, map, filter, filter_map, get_or, slice_get, slice_index, All, Option, None, Some, length-append, append_assoc, refl, sym, ◌∙◌, ap, subst, arith, inl, inr, ◌⊎◌}
+use Rattle.std.proofs.Common.{◌≡◌, ◌<◌, ◌+◌, ◌==◌, ◌||◌, ℕ, zero, suc, Bool, true, false, cond, if◌then◌else◌, List, [], ◌∷◌, ◌++◌, length, map, filter, filter_map, get_or, slice_get, slice_index, All, Option, None, Some, length-append, refl, sym, ◌∙◌, ap, subst, arith, inl, inr, ◌⊎◌}
 use Rattle.std.specs.List.{AllByRecursion, cons_option, flat_map, list_any}
 use Rattle.std.proofs.Math.ListN.{get_or-eq_default}
-use Rattle.std.proofs.lemmas.Bool.{cases_Bool, cases_eq, cases_lt, eq-eqb, ne_eqb, false≢true, true≢false}
+use Rattle.std.proofs.lemmas.Bool.{cases_eq, cases_lt, eq-eqb, ne_eqb, false≢true, true≢false}
 use Rattle.std.proofs.lemmas.List.{get_or_append_left}
-use Rattle.std.proofs.lemmas.List.Concat.{flat_map-append}
-use Rattle.std.proofs.lemmas.List.Elements.{All-push, All-nil, All-from_recursion, recursion_from_All}
+use Rattle.std.proofs.lemmas.List.Elements.{All-push, All-nil}
 use Rattle.std.proofs.lemmas.List.Folds.{list_any-append}
 use Rattle.mm_tokens.specs.declared.pieces.Span.{Span}
 use Rattle.mm_scope.specs.Contents.{events_of, labels_of, statements_of, stated_at, is_variable_of}
@@ -19,8 +18,7 @@ use Rattle.mm_subst.specs.declared.symbol.WSym.{WSym}
 use Rattle.mm_subst.specs.declared.symbol.WSym.TheVariants.{Const, Var, Work}
 use Rattle.mm_subst.specs.Statements.{statement_of, symbol_of}
 use Rattle.mm_subst.specs.Substitutions.{Pairs, applied, or_itself, value_at, value_of}
-use Rattle.mm_subst.specs.Symbols.{is_same, is_work}
-use Rattle.mm_subst.proofs.Replaced.{applied-cons, applied-nil}
+use Rattle.mm_subst.proofs.Replaced.{applied-cons}
 use Rattle.mm_plain.specs.Drawing.{fresh_for, fresh_from}
 use Rattle.mm_plain.specs.Premises.{premise_ids, variables_for}
 use Rattle.mm_plain.specs.Valid.{first_setting}
@@ -37,9 +35,12 @@ use Rattle.mm_minimize.proofs.AlikeLemmas.{Begins}
 begun : (fresh : Pairs) (bytes ns : List ℕ) → ((n : ℕ) → value_at fresh (Const n) ≡ None) → 0 < length ns → is_variable_of bytes (slice_index ns 0) ≡ false → Begins (applied fresh (map (symbol_of bytes) ns))
 begun fresh bytes [] h some e = absurd (omega arith)
 begun fresh bytes (n ∷ ns) h some e =
-    let x : symbol_of bytes n ≡ Const n = ap (λ (b : Bool). if b then Var n else Const n) e in
-    (Const n, applied fresh (map (symbol_of bytes) ns), refl,
-      ap (λ (y : WSym). applied fresh (y ∷ map (symbol_of bytes) ns)) x ∙ applied-cons fresh (Const n) (map (symbol_of bytes) ns) ∙ ap (λ (s : List WSym). s ++ applied fresh (map (symbol_of bytes) ns)) (ap (or_itself (Const n)) (h n)))
+    let x : symbol_of bytes n ≡ Const n = ap (λ (b : Bool). if b then Var n else Const n) e in (
+      Const n,
+      applied fresh (map (symbol_of bytes) ns),
+      refl,
+      ap (λ (y : WSym). applied fresh (y ∷ map (symbol_of bytes) ns)) x ∙ applied-cons fresh (Const n) (map (symbol_of bytes) ns) ∙ ap (λ (s : List WSym). s ++ applied fresh (map (symbol_of bytes) ns)) (ap (or_itself (Const n)) (h n)),
+    )
 
 pub own_begins : (bytes : List ℕ) (id m : ℕ) → m < length (labels_of bytes) → Begins (pattern_of bytes id m)
 unfolding statement_of
@@ -94,10 +95,13 @@ has_longer xs t s h = along s.mandatory h
   where
     along : (ms : List ℕ) → AllByRecursion (IsNeeded xs s) ms → AllByRecursion (IsNeeded (xs ++ t ∷ []) s) ms
     along [] k = tt
-    along (m ∷ ms) k = (record {
-      there = omega (arith, k.0.there, length-append xs (t ∷ []));
-      needed = λ v e. ap (list_any (λ n. v == n)) (with_stays xs t s h) ∙ k.0.needed v (sym (ap variable_of (statement_stays xs t m k.0.there)) ∙ e);
-    }, along ms k.1)
+    along (m ∷ ms) k = (
+      record {
+        there = omega (arith, k.0.there, length-append xs (t ∷ []));
+        needed = λ v e. ap (list_any (λ n. v == n)) (with_stays xs t s h) ∙ k.0.needed v (sym (ap variable_of (statement_stays xs t m k.0.there)) ∙ e);
+      },
+      along ms k.1,
+    )
 
 -- what is left out of the active hypotheses has no symbols that are needed
 not_essential : (k : Kind) (needed : Bool) → is_mandatory_by k needed ≡ false → is_essential k ≡ false
@@ -159,10 +163,13 @@ assertion_has xs ids groups k ss from to d = along ids
         by : (b : Bool) → is_mandatory (ss ++ flat_map (λ id. essential_symbols (statement_at xs id)) ids) (statement_at xs m) ≡ b
             → AllByRecursion (IsNeeded xs (an_assertion xs ids groups k ss from to d)) (filter (λ m. is_mandatory (ss ++ flat_map (λ id. essential_symbols (statement_at xs id)) ids) (statement_at xs m)) ms)
             → AllByRecursion (IsNeeded xs (an_assertion xs ids groups k ss from to d)) (cond b (m ∷ filter (λ m. is_mandatory (ss ++ flat_map (λ id. essential_symbols (statement_at xs id)) ids) (statement_at xs m)) ms) (filter (λ m. is_mandatory (ss ++ flat_map (λ id. essential_symbols (statement_at xs id)) ids) (statement_at xs m)) ms))
-        by true e rest = (record {
-          there = mandatory_there xs (ss ++ flat_map (λ id. essential_symbols (statement_at xs id)) ids) m e;
-          needed = λ v q. ap (list_any (λ n. v == n)) same ∙ float_needed (statement_at xs m).kind (statement_at xs m).symbols (ss ++ flat_map (λ id. essential_symbols (statement_at xs id)) ids) v e q;
-        }, rest)
+        by true e rest = (
+          record {
+            there = mandatory_there xs (ss ++ flat_map (λ id. essential_symbols (statement_at xs id)) ids) m e;
+            needed = λ v q. ap (list_any (λ n. v == n)) same ∙ float_needed (statement_at xs m).kind (statement_at xs m).symbols (ss ++ flat_map (λ id. essential_symbols (statement_at xs id)) ids) v e q;
+          },
+          rest,
+        )
         by false e rest = rest
 
 with_more : (xs : List Stated) (t : Stated) → All (Has xs) xs → Has xs t → All (Has (xs ++ t ∷ [])) (xs ++ t ∷ [])

@@ -1,29 +1,19 @@
 -- The search along a pattern and a target.
-use Rattle.std.proofs.Common.{◌≡◌, ◌≤◌, ◌<◌, ◌+◌, ◌-◌, ℕ, zero, suc, Bool, true, false, cond, not, ◌&&◌, ◌||◌, List, [], ◌∷◌, ◌++◌, length, map, filter, take, drop, get_or, Option, None, Some, refl, sym, ◌∙◌, ap, subst, arith, inl, inr, ◌⊎◌, append-nil, append_assoc, length-append}
-use Rattle.std.specs.List.{All, AllByRecursion, flat_map, list_all}
-use Rattle.std.proofs.lemmas.Bool.{and_left, and_right, cases_lt, true≢false}
-use Rattle.std.proofs.lemmas.List.Elements.{All-from_recursion, recursion_from_All}
-use Rattle.std.proofs.Math.Seq.{drop-cons}
+use Rattle.std.proofs.Common.{◌≡◌, ◌≤◌, ◌<◌, ◌-◌, ℕ, Bool, true, false, cond, not, ◌&&◌, List, [], ◌∷◌, ◌++◌, length, filter, take, drop, Option, None, Some, refl, sym, ◌∙◌, ap, arith, inl, inr, append-nil}
+use Rattle.std.specs.List.{flat_map}
+use Rattle.std.proofs.lemmas.Bool.{and_right, cases_lt, true≢false}
 use Rattle.mm_subst.specs.declared.symbol.WSym.{WSym}
-use Rattle.mm_subst.specs.declared.symbol.WSym.TheVariants.{Work}
-use Rattle.mm_subst.specs.Substitutions.{Pairs, value_at}
-use Rattle.mm_subst.specs.Symbols.{is_same, is_work}
-use Rattle.mm_subst.proofs.Keys.{is_same-itself}
-use Rattle.mm_subst.proofs.Replaced.{or_next, value_at-append}
+use Rattle.mm_subst.specs.Substitutions.{Pairs}
 use Rattle.mm_unify.specs.Forbidden.{Forbidden}
 use Rattle.mm_unify.specs.Matching.{are_allowed, behind, by_value, known_value, lengths, matches, onward}
-use Rattle.mm_unify.proofs.Lists.{AllByRecursion-append}
-use Rattle.mm_unify.proofs.Matched.{behind-some}
 use Rattle.mm_plain.specs.declared.plain.Plain.{Plain}
-use Rattle.mm_plain.specs.Valid.{IsKnownSymbol, IsString, Setting}
-use Rattle.mm_chart.specs.Options.{is_there}
 use Rattle.mm_improve.specs.Assertions as improve
 use Rattle.mm_minimize.specs.Combinations.{Combination}
-use Rattle.mm_minimize.specs.Fits.{HasSymbol, IsBehind, fits}
+use Rattle.mm_minimize.specs.Fits.{fits}
 use Rattle.mm_minimize.specs.Serving.{Serving, first_of, target_in}
-use Rattle.mm_minimize.specs.Targets.{AreFirsts, first_at, string_at}
+use Rattle.mm_minimize.specs.Targets.{AreFirsts, first_at}
 use Rattle.mm_minimize.specs.declared.target.Target.{Target}
-use Rattle.mm_minimize.proofs.OutcomeLemmas.{first_over, of-append, of-fronts}
+use Rattle.mm_minimize.proofs.OutcomeLemmas.{first_over, of-fronts}
 
 -- ## Matches with a forbidden value
 

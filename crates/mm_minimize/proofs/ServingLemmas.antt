@@ -1,5 +1,5 @@
 -- The replacement of a step is the tree by the first combination that serves.
-use Rattle.std.proofs.Common.{◌≡◌, ◌≤◌, ◌<◌, ◌+◌, ◌-◌, ℕ, Bool, true, false, cond, ◌&&◌, ◌||◌, if◌then◌else◌, List, [], ◌∷◌, ◌++◌, length, map, drop, get_or, Option, None, Some, refl, sym, ◌∙◌, ap, arith}
+use Rattle.std.proofs.Common.{◌≡◌, ◌≤◌, ◌<◌, ◌+◌, ◌-◌, ℕ, Bool, true, false, cond, ◌&&◌, ◌||◌, if◌then◌else◌, List, [], ◌∷◌, ◌++◌, map, drop, Option, None, Some, refl, sym, ◌∙◌, ap, arith}
 use Rattle.std.specs.Prelude.{filter_map, is_some, slice_get, slice_index, option_map, option_and_then}
 use Rattle.std.specs.List.{AllByRecursion, cons_option, flat_map, list_all}
 use Rattle.std.proofs.lemmas.List.{get_or-map}
@@ -16,7 +16,7 @@ use Rattle.mm_chart.specs.Options.{first}
 use Rattle.mm_improve.specs.Assertions as improve
 use Rattle.mm_improve.specs.Finding.{or_none}
 use Rattle.mm_minimize.specs.Combinations.{Combination, children_by, combinations, combinations_by, essentials_of, extensions, if_small, pattern_of, replacement, steps_below, target_at, tree_by}
-use Rattle.mm_minimize.specs.Serving.{Serving, first_of, first_serving, is_met, serves, serving_by, target_in, tree_over}
+use Rattle.mm_minimize.specs.Serving.{first_serving, is_met, serves, serving_by, target_in, tree_over}
 use Rattle.mm_minimize.proofs.ChainLemmas.{numbers_within}
 
 -- ## Targets of steps

@@ -1,13 +1,13 @@
 -- What the next `$e` hypothesis, and the next variable, give.
-use Rattle.std.proofs.Common.{◌≡◌, ◌≤◌, ◌<◌, ◌+◌, ◌-◌, ℕ, zero, suc, Bool, true, false, not, List, [], ◌∷◌, ◌++◌, length, map, take, drop, get_or, Option, None, Some, is_some, length-append, refl, sym, ◌∙◌, ap, subst, arith, inl, inr}
+use Rattle.std.proofs.Common.{◌≡◌, ◌≤◌, ◌<◌, ◌+◌, ◌-◌, ℕ, Bool, true, false, not, List, [], ◌∷◌, ◌++◌, length, take, drop, get_or, Option, None, Some, is_some, length-append, refl, sym, ◌∙◌, ap, arith}
 use Rattle.std.specs.List.{flat_map}
 use Rattle.std.proofs.Math.Seq.{take-append_seam}
-use Rattle.std.proofs.lemmas.Bool.{cases_lt, false≢true, true≢false}
+use Rattle.std.proofs.lemmas.Bool.{false≢true, true≢false}
 use Rattle.mm_subst.specs.declared.symbol.WSym.{WSym}
 use Rattle.mm_subst.specs.Substitutions.{Pairs}
-use Rattle.mm_unify.specs.Matching.{known_value, lengths, matches}
+use Rattle.mm_unify.specs.Matching.{known_value, lengths}
 use Rattle.mm_improve.specs.Proving.{chosen_tree}
-use Rattle.mm_minimize.specs.Combinations.{Combination, combinations_by, steps_below}
+use Rattle.mm_minimize.specs.Combinations.{combinations_by, steps_below}
 use Rattle.mm_minimize.specs.Fits.{fits}
 use Rattle.mm_minimize.specs.Serving.{Serving, first_of, target_in}
 use Rattle.mm_minimize.specs.Targets.{AreFirsts, first_at, string_at}

@@ -1,16 +1,16 @@
 -- The substitution that puts for each variable the value of its work variable.
-use Rattle.std.proofs.Common.{◌≡◌, ◌≤◌, ◌<◌, ◌+◌, ℕ, zero, suc, Bool, true, false, List, [], ◌∷◌, ◌++◌, length, map, take, drop, get_or, Option, None, Some, cond, ◌&&◌, refl, sym, ◌∙◌, ap, subst, arith, inl, inr, if◌then◌else◌}
-use Rattle.std.specs.List.{All, AllByRecursion}
+use Rattle.std.proofs.Common.{◌≡◌, ◌≤◌, ◌<◌, ◌+◌, ℕ, suc, Bool, true, false, List, [], ◌∷◌, ◌++◌, length, take, get_or, None, Some, cond, ◌&&◌, refl, sym, ◌∙◌, ap, subst, arith, if◌then◌else◌}
+use Rattle.std.specs.List.{AllByRecursion}
 use Rattle.std.specs.Option.{option_map}
 use Rattle.std.proofs.lemmas.List.{map-append, take_all}
-use Rattle.std.proofs.lemmas.List.Elements.{All-from_recursion, recursion_from_All}
+use Rattle.std.proofs.lemmas.List.Elements.{All-from_recursion}
 use Rattle.mm_scope.specs.Laws.{AllDiffer}
 use Rattle.mm_subst.specs.declared.symbol.WSym.{WSym}
 use Rattle.mm_subst.specs.declared.symbol.WSym.TheVariants.{Var, Work}
 use Rattle.mm_subst.specs.Substitutions.{Pairs, applied, or_itself, value_at, value_of, with_values}
 use Rattle.mm_subst.specs.Symbols.{is_same}
 use Rattle.mm_subst.proofs.Replaced.{applied-one, value_at-with_values}
-use Rattle.mm_plain.specs.Drawing.{fresh_for, fresh_from}
+use Rattle.mm_plain.specs.Drawing.{fresh_from}
 use Rattle.mm_plain.specs.Valid.{IsString, first_setting}
 use Rattle.mm_plain.proofs.Fresh.{length-fresh}
 use Rattle.mm_tree.proofs.FreshVariables.{key-is-new, one-more}

@@ -1,5 +1,5 @@
 -- The targets of the steps, by their places among different strings.
-use Rattle.std.proofs.Common.{◌≡◌, ◌≤◌, ◌<◌, ◌+◌, ◌-◌, ℕ, zero, suc, Bool, true, false, List, [], ◌∷◌, ◌++◌, length, map, get_or, Result, Ok, Err, OnErr, is_ok, if◌then◌else◌, ◌⊎◌, refl, sym, ◌∙◌, ap, subst, arith, inl, inr, length-append}
+use Rattle.std.proofs.Common.{◌≡◌, ◌≤◌, ◌<◌, ◌+◌, ◌-◌, ℕ, suc, Bool, true, List, [], ◌∷◌, ◌++◌, length, get_or, Result, Ok, Err, OnErr, is_ok, if◌then◌else◌, refl, sym, ◌∙◌, ap, subst, arith, inl, inr, length-append}
 use Rattle.std.specs.Cmp.Lexicographic.{pointwise}
 use Rattle.std.proofs.lemmas.Bool.{and_parts, cases_lt, false≢true}
 use Rattle.std.proofs.lemmas.List.{get_or_append_left, get_or-map, length-map, map-append}
@@ -73,10 +73,12 @@ numbered_again ds ns n h l =
       ];
       rising = h.rising;
       own = λ i small.
-          let o = h.own i small in
-          (o.0, omega (arith, o.1, more),
+          let o = h.own i small in (
+            o.0,
+            omega (arith, o.1, more),
             ap (λ (ss : List (List WSym)). get_or ss (first_at ds i - 1) []) (strings_more ds ns n)
-            ∙ string_stays (strings_by ds ns) (string_at ds n) (first_at ds i - 1) (omega (arith, o.0, o.1, length-map ns (string_at ds))) ∙ o.2);
+                ∙ string_stays (strings_by ds ns) (string_at ds n) (first_at ds i - 1) (omega (arith, o.0, o.1, length-map ns (string_at ds))) ∙ o.2,
+          );
     }
 
 strings_grown : (ds : List Target) (t : Target) (ns : List ℕ) → ((k : ℕ) → k < length ns → get_or ns k 0 < length ds) → strings_by (ds ++ t ∷ []) ns ≡ strings_by ds ns
@@ -131,19 +133,23 @@ numbered_new ds ns t h first =
         | inl low ↦
             let o = h.own i low in
             let a = first_left ds t i low in
-            let place : first_at ds i - 1 < length (strings_by ds ns) = omega (arith, o.0, o.1, length-map ns (string_at ds)) in
-            (omega (arith, o.0, a), omega (arith, o.1, a, more),
+            let place : first_at ds i - 1 < length (strings_by ds ns) = omega (arith, o.0, o.1, length-map ns (string_at ds)) in (
+              omega (arith, o.0, a),
+              omega (arith, o.1, a, more),
               ap (λ (m : ℕ). get_or (strings_by (ds ++ t ∷ []) (ns ++ length ds ∷ [])) (m - 1) []) a
-              ∙ ap (λ (ss : List (List WSym)). get_or ss (first_at ds i - 1) []) all
-              ∙ string_stays (strings_by ds ns) (string_at (ds ++ t ∷ []) (length ds)) (first_at ds i - 1) place ∙ o.2 ∙ sym (string_left ds t i low))
+                  ∙ ap (λ (ss : List (List WSym)). get_or ss (first_at ds i - 1) []) all
+                  ∙ string_stays (strings_by ds ns) (string_at (ds ++ t ∷ []) (length ds)) (first_at ds i - 1) place ∙ o.2 ∙ sym (string_left ds t i low),
+            )
         | inr high ↦
             let e : i ≡ length ds = omega (arith, small, longer, high) in
             let f : first_at (ds ++ t ∷ []) i ≡ length ns + 1 = ap (first_at (ds ++ t ∷ [])) e ∙ last_first in
-            let place : first_at (ds ++ t ∷ []) i - 1 ≡ length (strings_by ds ns) = omega (arith, f, length-map ns (string_at ds)) in
-            (omega (arith, f), omega (arith, f, more),
+            let place : first_at (ds ++ t ∷ []) i - 1 ≡ length (strings_by ds ns) = omega (arith, f, length-map ns (string_at ds)) in (
+              omega (arith, f),
+              omega (arith, f, more),
               ap (λ (m : ℕ). get_or (strings_by (ds ++ t ∷ []) (ns ++ length ds ∷ [])) m []) place
-              ∙ ap (λ (ss : List (List WSym)). get_or ss (length (strings_by ds ns)) []) all
-              ∙ last_string (strings_by ds ns) (string_at (ds ++ t ∷ []) (length ds)) ∙ ap (string_at (ds ++ t ∷ [])) (sym e))
+                  ∙ ap (λ (ss : List (List WSym)). get_or ss (length (strings_by ds ns)) []) all
+                  ∙ last_string (strings_by ds ns) (string_at (ds ++ t ∷ []) (length ds)) ∙ ap (string_at (ds ++ t ∷ [])) (sym e),
+            )
       ];
     }
 

@@ -1,6 +1,6 @@
 -- The search from the conclusion on finds the first combination that serves.
-use Rattle.std.proofs.Common.{◌≡◌, ◌≤◌, ◌<◌, ◌-◌, ℕ, Bool, false, List, [], ◌∷◌, length, map, get_or, Option, refl, sym, ◌∙◌, ap, subst, arith, inl, inr}
-use Rattle.std.specs.List.{All, AllByRecursion, flat_map}
+use Rattle.std.proofs.Common.{◌≡◌, ◌≤◌, ◌-◌, ℕ, false, List, [], length, get_or, sym, ◌∙◌, ap, arith, inl, inr}
+use Rattle.std.specs.List.{All, flat_map}
 use Rattle.std.proofs.Math.ListN.{get_or-eq_default}
 use Rattle.std.proofs.lemmas.Bool.{cases_lt}
 use Rattle.mm_subst.specs.declared.symbol.WSym.{WSym}
@@ -10,9 +10,9 @@ use Rattle.mm_subst.specs.Symbols.{has_work}
 use Rattle.mm_plain.specs.Valid.{IsString, first_setting}
 use Rattle.mm_improve.specs.Proving.{chosen_tree}
 use Rattle.mm_improve.proofs.FoundValues.{string_no_work}
-use Rattle.mm_minimize.specs.Combinations.{combinations_by, essentials_of, pattern_of}
+use Rattle.mm_minimize.specs.Combinations.{combinations_by, pattern_of}
 use Rattle.mm_minimize.specs.Fits.{fits}
-use Rattle.mm_minimize.specs.Serving.{Serving, first_of, first_serving, target_in}
+use Rattle.mm_minimize.specs.Serving.{first_serving, target_in}
 use Rattle.mm_minimize.specs.Trials.{IsAttempt, combinations_after, first_in, forbidden_in, terms_of}
 use Rattle.mm_minimize.specs.declared.attempt.Attempt.{Attempt}
 use Rattle.mm_minimize.proofs.AlikeLemmas.{all_combinations}

@@ -1,23 +1,20 @@
 -- The values so far of a search: strings for the theorem, and one for each variable that has been passed.
-use Rattle.std.proofs.Common.{◌≡◌, ◌≤◌, ◌<◌, ◌+◌, ◌-◌, ℕ, zero, suc, Bool, true, false, cond, not, ◌&&◌, List, [], ◌∷◌, ◌++◌, length, map, take, drop, get_or, Option, None, Some, refl, sym, ◌∙◌, ap, subst, arith, inl, inr, ◌⊎◌, append_assoc, length-append}
-use Rattle.std.specs.List.{All, AllByRecursion, flat_map, list_all}
+use Rattle.std.proofs.Common.{◌≡◌, ◌≤◌, ◌<◌, ◌+◌, ◌-◌, ℕ, zero, suc, Bool, true, false, cond, not, ◌&&◌, List, [], ◌∷◌, ◌++◌, length, take, drop, get_or, Option, None, Some, refl, sym, ◌∙◌, ap, subst, arith, inl, inr, length-append}
+use Rattle.std.specs.List.{AllByRecursion, flat_map}
 use Rattle.std.proofs.lemmas.Bool.{and_from}
 use Rattle.std.proofs.lemmas.List.{take-append-drop}
 use Rattle.std.proofs.lemmas.List.Elements.{All-from_recursion, recursion_from_All}
 use Rattle.mm_subst.specs.declared.symbol.WSym.{WSym}
 use Rattle.mm_subst.specs.declared.symbol.WSym.TheVariants.{Work}
-use Rattle.mm_subst.specs.Applied.{most_symbols}
 use Rattle.mm_subst.specs.Substitutions.{Pairs, value_at}
-use Rattle.mm_subst.specs.Symbols.{is_same}
 use Rattle.mm_subst.proofs.Keys.{is_same-itself}
 use Rattle.mm_subst.proofs.Replaced.{or_next, value_at-append}
 use Rattle.mm_unify.specs.Forbidden.{Forbidden}
 use Rattle.mm_unify.specs.Matching.{are_allowed}
 use Rattle.mm_unify.proofs.Lists.{AllByRecursion-append}
-use Rattle.mm_plain.specs.Premises.{variables_for}
 use Rattle.mm_plain.specs.Valid.{IsKnownSymbol, IsString, Setting, first_setting}
 use Rattle.mm_chart.specs.Options.{is_there}
-use Rattle.mm_minimize.specs.Combinations.{essentials_of, pattern_of}
+use Rattle.mm_minimize.specs.Combinations.{pattern_of}
 use Rattle.mm_minimize.specs.Fits.{HasSymbol, IsBehind}
 use Rattle.mm_minimize.specs.Targets.{AreFirsts, first_at, string_at}
 use Rattle.mm_minimize.specs.declared.target.Target.{Target}

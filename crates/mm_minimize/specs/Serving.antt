@@ -1,5 +1,5 @@
 -- What serves in the place of a step, told from the targets of the steps alone.
-use Rattle.std.specs.Prelude.{ℕ, Bool, ◌-◌, ◌&&◌, ◌||◌, List, [], Option, is_some, map, slice_index_or, option_and_then}
+use Rattle.std.specs.Prelude.{◌≡◌, ◌≤◌, ℕ, Bool, ◌-◌, ◌&&◌, ◌||◌, List, [], Option, is_some, map, slice_index_or, option_and_then, option_map}
 use Rattle.std.specs.List.{list_all}
 use Rattle.mm_scope.specs.Contents.{stated_at}
 use Rattle.mm_stated.specs.Stated.{is_essential}
@@ -7,12 +7,12 @@ use Rattle.mm_subst.specs.declared.symbol.WSym.{WSym}
 use Rattle.mm_subst.specs.Substitutions.{Pairs, applied}
 use Rattle.mm_subst.specs.Statements.{statement_of}
 use Rattle.mm_plain.specs.declared.plain.Plain.{Plain}
-use Rattle.mm_plain.specs.Shape.{known, step_at, target_of}
+use Rattle.mm_plain.specs.Shape.{known, size_of, step_at, steps_of, target_of}
 use Rattle.mm_plain.specs.Premises.{premise_ids}
 use Rattle.mm_chart.specs.Options.{first}
 use Rattle.mm_improve.specs.Assertions as improve
 use Rattle.mm_improve.specs.Finding.{or_none}
-use Rattle.mm_minimize.specs.Combinations.{Combination, children_by, combinations, if_small}
+use Rattle.mm_minimize.specs.Combinations.{Combination, children_by, combinations, if_small, replacement}
 
 -- what the variables of an assertion stand for, and steps for its `$e` hypotheses in order
 pub record Serving : Type 0 where
@@ -47,3 +47,8 @@ first_serving c prove targets s id = first_of c prove id (combinations c (target
 abbrev pub tree_over : improve.Terms → (List WSym → Option Plain) → Plain → ℕ → ℕ → Serving → Plain
 tree_over c prove x s id q =
     known (target_of (step_at x s)) id q.sigma (or_none (children_by c prove x q.sigma (premise_ids c.bytes id) q.steps))
+
+-- the replacement of a step is the tree by what serves, told from the targets of all steps
+abbrev pub ReplacementsServe : Type 0
+ReplacementsServe = (c : improve.Terms) (prove : List WSym → Option Plain) (x : Plain) (s id : ℕ) → 1 ≤ s → s ≤ size_of x →
+    replacement c prove x s id ≡ option_map (tree_over c prove x s id) (first_serving c prove (map target_of (steps_of x)) s id)

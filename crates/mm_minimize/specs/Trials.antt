@@ -1,5 +1,5 @@
 -- An assertion that is tried at a step.
-use Rattle.std.specs.Prelude.{◌≡◌, ◌≤◌, ◌<◌, ◌+◌, ◌⊎◌, ℕ, false, true, List, [], ◌∷◌, ◌++◌, Option, None, Some, map, flat_map, length, drop, All}
+use Rattle.std.specs.Prelude.{◌≡◌, ◌≤◌, ◌<◌, ◌+◌, ◌⊎◌, ℕ, false, true, List, Option, map, flat_map, length, drop, All}
 use Rattle.std.specs.List.{AllByRecursion}
 use Rattle.mm_scope.specs.Contents.{labels_of, stated_at}
 use Rattle.mm_scope.specs.Laws.{AllDiffer}
@@ -9,7 +9,6 @@ use Rattle.mm_subst.specs.declared.symbol.WSym.TheVariants.{Work}
 use Rattle.mm_subst.specs.Substitutions.{Pairs, value_at}
 use Rattle.mm_unify.specs.Forbidden.{Forbidden, forbidden}
 use Rattle.mm_unify.specs.Matching.{are_allowed}
-use Rattle.mm_plain.specs.declared.plain.Plain.{Plain}
 use Rattle.mm_plain.specs.Premises.{variables_for}
 use Rattle.mm_plain.specs.Valid.{IsString, first_setting, most_works}
 use Rattle.mm_chart.specs.Options.{is_there}

@@ -2,6 +2,7 @@
 
 ghost use Rattle.mm_minimize.specs.Chains.{BringsNoAxiom, IsChain, IsShorter, UsesAllowed};
 ghost use Rattle.mm_minimize.specs.Replacing.{ReplacementsFit};
+ghost use Rattle.mm_minimize.specs.Serving.{ReplacementsServe};
 
 /// A proof made shorter comes of the old one by the statements that were used, one replacement each. Its compressed proof
 /// is shorter, unless it may grow.
@@ -21,4 +22,9 @@ pub fn used_statements_are_allowed()
 /// is that target, the hypotheses are the targets of its children, and the distinct pairs hold.
 pub fn replacements_fit()
     ensures { ReplacementsFit }
+{}
+
+/// The replacement of a step is the tree by the first combination that serves, which the targets of the steps alone decide.
+pub fn replacements_serve()
+    ensures { ReplacementsServe }
 {}

@@ -15,5 +15,7 @@ mod trial;
 
 pub use bases::{named, resting_on};
 pub use fault::MinimizeFault;
-pub use laws::{replacements_fit, shorter_proofs_are_chains, used_statements_are_allowed};
+pub use laws::{
+    replacements_fit, replacements_serve, shorter_proofs_are_chains, used_statements_are_allowed,
+};
 pub use proved::is_proved;

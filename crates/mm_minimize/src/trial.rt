@@ -27,7 +27,13 @@ pub struct Trial {
 }
 
 /// A statement, with the variables of an assertion taken as work variables.
-fn pattern(alloc: Global, db: &Database, id: StmtId, m: StmtId, fresh: &Subst) -> Result<WStr, Memory>
+fn pattern(
+    alloc: Global,
+    db: &Database,
+    id: StmtId,
+    m: StmtId,
+    fresh: &Subst,
+) -> Result<WStr, Memory>
     requires own { m.0 < length (labels_of db.now) }
     requires fresh { fresh.now ≡ fresh_for db.now 1 id.0 }
     ensures { IfOk result (λ s. s ≡ applied fresh.now (statement_of db.now m.0)) }

@@ -1,5 +1,4 @@
-use Rattle.std.proofs.Common.{◌≡◌, ◌≤◌, ◌<◌, ◌+◌, ◌-◌, ◌*◌, ℕ, suc, Bool, true, false, not, List, [], ◌∷◌, ◌++◌, length, take, drop, get_or, Option, None, Some, IfOk, is_some, refl, sym, ◌∙◌, ap, subst, arith, inl, inr}
-use Rattle.std.proofs.lemmas.Bool.{cases_lt}
+use Rattle.std.proofs.Common.{◌≡◌, ◌≤◌, ◌<◌, ◌+◌, ℕ, suc, true, false, not, List, [], ◌∷◌, ◌++◌, length, take, get_or, Option, None, IfOk, sym, ◌∙◌, ap, subst, arith}
 use Rattle.std.proofs.lemmas.List.{get_or_default}
 use Rattle.mm_subst.specs.declared.symbol.WSym.{WSym}
 use Rattle.mm_subst.specs.declared.brackets.Brackets.{Brackets}
@@ -9,14 +8,14 @@ use Rattle.mm_chart.specs.Items.{Grammar}
 use Rattle.mm_improve.specs.declared.prover.Prover.{Prover}
 use Rattle.mm_minimize.specs.Fits.{Advances, IsFree}
 use Rattle.mm_minimize.specs.Serving.{Serving}
-use Rattle.mm_minimize.specs.Targets.{AreFirsts, first_at, no_target, string_at}
+use Rattle.mm_minimize.specs.Targets.{first_at, no_target, string_at}
 use Rattle.mm_minimize.specs.Trials.{AreValues, IsPart, first_in, rest_of}
 use Rattle.mm_minimize.specs.declared.attempt.Attempt.{Attempt}
 use Rattle.mm_minimize.specs.declared.target.Target.{Target}
 use Rattle.mm_minimize.proofs.StepLemmas.{extended-here, extended-none, forbidden_front, front-forbidden, front-none, front-told, nexts-end, nexts-here, nexts-none, nexts-stop, nothing, popped, step-told, step_gives}
 use Rattle.mm_minimize.proofs.FrontLemmas.{empty_is}
 use borrow.Author.Count.{below_more}
-use Rattle.mm_minimize.proofs.ValueLemmas.{part_behind, part_drop, part_own, part_take, rest_next, values_by, values_pass, values_with, weight, weight_next}
+use Rattle.mm_minimize.proofs.ValueLemmas.{part_behind, part_drop, part_own, part_take, rest_next, values_by, values_pass, values_with, weight_next}
 use Rattle.mm_minimize.proofs.combining.+combining.Goals as goal
 use Rattle.mm_minimize.proofs.combining.+combining.Goals.{extend-then-is_allowed+in_ok-push+in_ok-found+else-is_some+in-Some-1, extend-then-is_allowed+in_ok-push+in_ok-found+else-is_some+in-None-1, extend-else-is_allowed}
 
@@ -32,10 +31,20 @@ extend-walk-requires t c =
     let brackets = ap (λ (p : Prover). p.parts.brackets) c.prover.view_is ∙ ap (λ (g : Grammar). g.brackets) c.requires.attempt.ready.parts in
     let allowed : not ((forbidden_by (heeded c.args.attempt.now.db.now c.args.attempt.now.prover.now.search.rule)).at_end (take (c.loop-last.last + 1) c.args.target.now)) ≡ true =
     sym (c.is_allowed.ensures ∙ ap (λ (bs : Option Brackets). not ((forbidden_by bs).at_end c.split_at.result.0.now)) brackets
-    ∙ ap (λ (w : List WSym). not ((forbidden_by (heeded c.args.attempt.now.db.now c.args.attempt.now.prover.now.search.rule)).at_end w)) c.split_at.ensures.front) ∙ c.if-is_allowed.true in
-    (omega (arith, c.decreases), (c.requires.attempt, (c.requires.level, (subst (IsPart c.args.attempt.now) (sym c.split_at.ensures.back) (part_drop a n target c.requires.part),
-      subst (λ (vs : Pairs). AreValues c.args.attempt.now (c.args.rest.now ++ rest_of c.args.attempt.now c.args.level) vs) (sym items)
-      (values_with a c.args.key c.args.rest.now (rest_of c.args.attempt.now c.args.level) c.args.values.now.items (take n target) (part_take a n target c.requires.part) allowed c.requires.values)))))
+    ∙ ap (λ (w : List WSym). not ((forbidden_by (heeded c.args.attempt.now.db.now c.args.attempt.now.prover.now.search.rule)).at_end w)) c.split_at.ensures.front) ∙ c.if-is_allowed.true in (
+      omega (arith, c.decreases),
+      (
+        c.requires.attempt,
+        (
+          c.requires.level,
+          (
+            subst (IsPart c.args.attempt.now) (sym c.split_at.ensures.back) (part_drop a n target c.requires.part),
+            subst (λ (vs : Pairs). AreValues c.args.attempt.now (c.args.rest.now ++ rest_of c.args.attempt.now c.args.level) vs) (sym items)
+                (values_with a c.args.key c.args.rest.now (rest_of c.args.attempt.now c.args.level) c.args.values.now.items (take n target) (part_take a n target c.requires.part) allowed c.requires.values),
+          ),
+        ),
+      ),
+    )
 
 pub extend-returns-then-is_some-clause-first : goal.extend-returns-then-is_some-clause-first
 extend-returns-then-is_some-clause-first t c =
@@ -124,10 +133,20 @@ next-walk-requires t c =
     let pattern : get_or c.args.attempt.now.trial.now.essentials.items c.args.level [] ≡ c.symbols-pattern.result.now = get_or_default c.args.attempt.now.trial.now.essentials.items c.args.level [] c.index.result.now own ∙ sym c.index.ensures ∙ sym c.symbols-pattern.ensures in
     let heavy = weight_next a level own in
     let long : length c.symbols-pattern.result.now ≡ length (get_or c.args.attempt.now.trial.now.essentials.items c.args.level []) = ap (λ (p : List WSym). length p) (sym pattern) in
-    let rest : rest_of c.args.attempt.now c.args.level ≡ c.symbols-pattern.result.now ++ rest_of c.args.attempt.now (c.args.level + 1) = rest_next a level own ∙ ap (λ (p : List WSym). p ++ rest_of c.args.attempt.now (c.args.level + 1)) pattern in
-    (omega (arith, c.decreases, heavy, long), (c.requires.attempt, (omega (arith, own), (subst (IsPart c.args.attempt.now) (item ∙ sym c.symbols-string.ensures) (part_own a ds c.loop-target.target-index c.requires.attempt c.different-target-items.ensures c.loop-target-test.true),
-      subst (λ (v : Pairs). AreValues c.args.attempt.now (c.symbols-pattern.result.now ++ rest_of c.args.attempt.now (c.args.level + 1)) v) (sym c.loop-target.invariant.values)
-      (values_by a (rest_of c.args.attempt.now c.args.level) (c.symbols-pattern.result.now ++ rest_of c.args.attempt.now (c.args.level + 1)) c.args.values.now.items rest c.requires.values)))))
+    let rest : rest_of c.args.attempt.now c.args.level ≡ c.symbols-pattern.result.now ++ rest_of c.args.attempt.now (c.args.level + 1) = rest_next a level own ∙ ap (λ (p : List WSym). p ++ rest_of c.args.attempt.now (c.args.level + 1)) pattern in (
+      omega (arith, c.decreases, heavy, long),
+      (
+        c.requires.attempt,
+        (
+          omega (arith, own),
+          (
+            subst (IsPart c.args.attempt.now) (item ∙ sym c.symbols-string.ensures) (part_own a ds c.loop-target.target-index c.requires.attempt c.different-target-items.ensures c.loop-target-test.true),
+            subst (λ (v : Pairs). AreValues c.args.attempt.now (c.symbols-pattern.result.now ++ rest_of c.args.attempt.now (c.args.level + 1)) v) (sym c.loop-target.invariant.values)
+                (values_by a (rest_of c.args.attempt.now c.args.level) (c.symbols-pattern.result.now ++ rest_of c.args.attempt.now (c.args.level + 1)) c.args.values.now.items rest c.requires.values),
+          ),
+        ),
+      ),
+    )
 
 pub next-returns-then-is_some-clause-first : goal.next-returns-then-is_some-clause-first
 next-returns-then-is_some-clause-first t c =
@@ -181,11 +200,23 @@ walk-extend-requires t c =
     let told : Advances c.args.values.now.items c.args.pattern.now c.args.target.now c.in-Some.rest.now c.in-Some.left.now = subst (λ (vs : Pairs). Advances vs c.args.pattern.now c.args.target.now c.in-Some.rest.now c.in-Some.left.now) c.as_slice.ensures.value c.in-Some.ensures in
     let split : c.in-Some.rest.now ≡ c.in-Some-split_first.key.now ∷ c.in-Some-split_first.rest.now = c.in-Some-split_first.ensures.cases.0 in
     let long : length c.in-Some.rest.now ≡ suc (length c.in-Some-split_first.rest.now) = ap (λ (s : List WSym). length s) split in
-    let short = told.behind.shorter in
-    (omega (arith, c.decreases, long, short), (c.requires.attempt, (c.requires.level, (part_behind a c.args.target.now told.behind.passed c.in-Some.left.now told.behind.whole c.requires.part,
-      (subst (IsFree c.args.values.now.items) split told.free,
-        values_by a (c.in-Some.rest.now ++ rest_of c.args.attempt.now c.args.level) (c.in-Some-split_first.key.now ∷ (c.in-Some-split_first.rest.now ++ rest_of c.args.attempt.now c.args.level)) v (ap (λ (s : List WSym). s ++ rest_of c.args.attempt.now c.args.level) split)
-        (values_pass a c.args.pattern.now c.args.target.now c.in-Some.rest.now c.in-Some.left.now more v told.behind c.requires.values))))))
+    let short = told.behind.shorter in (
+      omega (arith, c.decreases, long, short),
+      (
+        c.requires.attempt,
+        (
+          c.requires.level,
+          (
+            part_behind a c.args.target.now told.behind.passed c.in-Some.left.now told.behind.whole c.requires.part,
+            (
+              subst (IsFree c.args.values.now.items) split told.free,
+              values_by a (c.in-Some.rest.now ++ rest_of c.args.attempt.now c.args.level) (c.in-Some-split_first.key.now ∷ (c.in-Some-split_first.rest.now ++ rest_of c.args.attempt.now c.args.level)) v (ap (λ (s : List WSym). s ++ rest_of c.args.attempt.now c.args.level) split)
+                  (values_pass a c.args.pattern.now c.args.target.now c.in-Some.rest.now c.in-Some.left.now more v told.behind c.requires.values),
+            ),
+          ),
+        ),
+      ),
+    )
 
 pub walk-next-requires : goal.walk-next-requires
 walk-next-requires t c =
@@ -193,7 +224,14 @@ walk-next-requires t c =
     let v : Pairs = c.args.values.now.items in
     let more : List WSym = rest_of c.args.attempt.now c.args.level in
     let told : Advances c.args.values.now.items c.args.pattern.now c.args.target.now c.in-Some.rest.now c.in-Some.left.now = subst (λ (vs : Pairs). Advances vs c.args.pattern.now c.args.target.now c.in-Some.rest.now c.in-Some.left.now) c.as_slice.ensures.value c.in-Some.ensures in
-    let nil : c.in-Some.rest.now ≡ [] = empty_is c.in-Some.rest.now c.in-None.ensures.cases in
-    (omega (arith, c.decreases), (c.requires.attempt, (c.requires.level,
-      values_by a (c.in-Some.rest.now ++ rest_of c.args.attempt.now c.args.level) (rest_of c.args.attempt.now c.args.level) v (ap (λ (s : List WSym). s ++ rest_of c.args.attempt.now c.args.level) nil)
-      (values_pass a c.args.pattern.now c.args.target.now c.in-Some.rest.now c.in-Some.left.now more v told.behind c.requires.values))))
+    let nil : c.in-Some.rest.now ≡ [] = empty_is c.in-Some.rest.now c.in-None.ensures.cases in (
+      omega (arith, c.decreases),
+      (
+        c.requires.attempt,
+        (
+          c.requires.level,
+          values_by a (c.in-Some.rest.now ++ rest_of c.args.attempt.now c.args.level) (rest_of c.args.attempt.now c.args.level) v (ap (λ (s : List WSym). s ++ rest_of c.args.attempt.now c.args.level) nil)
+              (values_pass a c.args.pattern.now c.args.target.now c.in-Some.rest.now c.in-Some.left.now more v told.behind c.requires.values),
+        ),
+      ),
+    )

@@ -1,8 +1,6 @@
 use Rattle.std.proofs.Common.{◌≡◌, ◌<◌, ◌+◌, ◌*◌, ℕ, None, length}
 use Rattle.mm_unify.specs.Matching.{lengths}
-use Rattle.mm_minimize.specs.Fits.{fits}
-use Rattle.mm_minimize.specs.Targets.{AreFirsts, first_at}
-use Rattle.mm_minimize.specs.Trials.{combinations_after, forbidden_in, left_after, terms_of}
+use Rattle.mm_minimize.specs.Targets.{first_at}
 use Rattle.mm_minimize.proofs.OutcomeLemmas.{first_over}
 use Rattle.mm_minimize.proofs.StepLemmas.{front_gives, step_gives}
 use Rattle.mm_minimize.proofs.ValueLemmas.{weight}

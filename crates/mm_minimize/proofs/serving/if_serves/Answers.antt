@@ -1,10 +1,10 @@
-use Rattle.std.proofs.Common.{◌≡◌, ◌&&◌, ◌<◌, ◌+◌, ℕ, Bool, true, false, List, [], ◌∷◌, Option, None, Some, cond, length, sym, refl, ◌∙◌, ap, subst, inl, inr}
+use Rattle.std.proofs.Common.{◌≡◌, ◌<◌, ◌+◌, ℕ, true, List, length, sym, ◌∙◌, ap, subst, inl, inr}
 use Rattle.std.specs.List.{list_all}
 use Rattle.mm_scope.specs.Contents.{stated_at}
 use Rattle.mm_subst.specs.declared.symbol.WSym.TheVariants.{Var, Work}
 use Rattle.mm_subst.specs.Substitutions.{Pairs, value_at, value_of, with_values}
-use Rattle.mm_plain.specs.Drawing.{fresh_for, fresh_from}
-use Rattle.mm_plain.specs.Premises.{premise_ids, variables_for}
+use Rattle.mm_plain.specs.Drawing.{fresh_from}
+use Rattle.mm_plain.specs.Premises.{premise_ids}
 use Rattle.mm_chart.specs.Items.{Grammar, are_parted}
 use Rattle.mm_chart.specs.Options.{is_there}
 use Rattle.mm_improve.specs.Assertions.{are_apart, sigma_by}

@@ -1,4 +1,4 @@
-use Rattle.std.proofs.Common.{◌≡◌, ◌+◌, arith}
+use Rattle.std.proofs.Common.{arith}
 use Rattle.mm_minimize.proofs.SubstitutionLemmas.{all_values, new_key, one_value}
 use Rattle.mm_minimize.proofs.serving.substitution.Goals as goal
 

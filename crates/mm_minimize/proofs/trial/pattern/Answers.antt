@@ -1,6 +1,5 @@
 use Rattle.std.proofs.Common.{◌<◌, List, Result, Err, length, subst, ◌∙◌, ap}
 use Rattle.mm_subst.specs.Applied.{IsApplied, most_symbols}
-use Rattle.mm_subst.specs.Statements.{statement_of}
 use Rattle.mm_subst.specs.Substitutions.{Pairs, applied}
 use Rattle.mm_subst.specs.declared.symbol.WSym.{WSym}
 use Rattle.mm_subst.specs.declared.fault.TooLongOrMemory.{TooLongOrMemory}

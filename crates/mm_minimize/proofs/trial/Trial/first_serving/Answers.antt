@@ -1,11 +1,11 @@
-use Rattle.std.proofs.Common.{◌≡◌, ◌++◌, [], ℕ, List, Option, IfOk, sym, subst, ◌∙◌, ap}
+use Rattle.std.proofs.Common.{◌≡◌, ◌++◌, List, Option, IfOk, sym, subst}
 use Rattle.std.specs.List.{flat_map}
 use Rattle.mm_subst.specs.declared.symbol.WSym.{WSym}
 use Rattle.mm_subst.specs.Substitutions.{Pairs}
 use Rattle.mm_improve.specs.Proving.{chosen_tree}
 use Rattle.mm_improve.specs.Searches.{terms}
 use Rattle.mm_minimize.specs.Fits.{fits}
-use Rattle.mm_minimize.specs.Serving.{Serving, first_serving, target_in}
+use Rattle.mm_minimize.specs.Serving.{Serving, first_serving}
 use Rattle.mm_minimize.specs.Trials.{AreValues, IsAttempt, combinations_after, first_in, forbidden_in, rest_of}
 use Rattle.mm_minimize.specs.declared.attempt.Attempt.{Attempt}
 use Rattle.mm_minimize.proofs.ValueLemmas.{values_start}

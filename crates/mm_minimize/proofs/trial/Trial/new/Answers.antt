@@ -1,4 +1,4 @@
-use Rattle.std.proofs.Common.{◌≡◌, ◌≤◌, ℕ, List, length, map, filter, subst, sym, ◌∙◌, ap, refl, arith}
+use Rattle.std.proofs.Common.{◌≡◌, ℕ, List, length, map, filter, subst, sym, ◌∙◌, ap, refl, arith}
 use Rattle.mm_scope.specs.Contents.{statements_of, stated_at}
 use Rattle.mm_scope.specs.Laws.{AllDiffer}
 use Rattle.mm_stated.specs.Mandatory.{variables_of}
@@ -6,7 +6,7 @@ use Rattle.mm_stated.specs.Stated.{is_essential}
 use Rattle.mm_subst.specs.Statements.{statement_of}
 use Rattle.mm_subst.specs.Substitutions.{Pairs, applied}
 use Rattle.mm_plain.specs.Drawing.{fresh_for, fresh_from}
-use Rattle.mm_plain.specs.Premises.{premise_ids, variables_for}
+use Rattle.mm_plain.specs.Premises.{variables_for}
 use Rattle.mm_tree.proofs.FreshVariables.{variables-differ}
 use Rattle.mm_minimize.proofs.trial.Trial.new.Goals as goal
 
