@@ -13,3 +13,4 @@ pub mod StepLemmas
 pub mod TargetLemmas
 pub mod FrontLemmas
 pub mod TryLemmas
+pub mod ConstantLemmas

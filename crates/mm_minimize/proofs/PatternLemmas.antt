@@ -233,7 +233,7 @@ has_either x [] t h = inr h
 has_either x (y ∷ s) t (inl e) = inl (inl e)
 has_either x (y ∷ s) t (inr h) = elim (has_either x s t h) [ inl a ↦ inl (inr a) | inr b ↦ inr b ]
 
-has_applied : (theta : Pairs) (s : List WSym) (x y : WSym) → HasSymbol x s → value_of theta x ≡ y ∷ [] → HasSymbol y (applied theta s)
+pub has_applied : (theta : Pairs) (s : List WSym) (x y : WSym) → HasSymbol x s → value_of theta x ≡ y ∷ [] → HasSymbol y (applied theta s)
 has_applied theta [] x y h e = absurd h
 has_applied theta (z ∷ s) x y h e =
     subst (HasSymbol y) (sym (applied-cons theta z s))

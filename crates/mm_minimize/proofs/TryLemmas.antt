@@ -18,13 +18,13 @@ use Rattle.mm_minimize.specs.declared.attempt.Attempt.{Attempt}
 use Rattle.mm_minimize.proofs.AlikeLemmas.{all_combinations}
 use Rattle.mm_minimize.proofs.PatternLemmas.{essentials_begin, own_begins}
 
-each_plain : (bytes : List ℕ) (at : ℕ) (targets : List (List WSym)) → All (IsString (first_setting bytes at)) targets → (k : ℕ) → has_work (target_in targets k) ≡ false
+pub each_plain : (bytes : List ℕ) (at : ℕ) (targets : List (List WSym)) → All (IsString (first_setting bytes at)) targets → (k : ℕ) → has_work (target_in targets k) ≡ false
 each_plain bytes at targets h k = elim (cases_lt (k - 1) (length targets)) [
   | inl own ↦ string_no_work bytes at (get_or targets (k - 1) []) (h (k - 1) [] own)
   | inr other ↦ ap has_work (get_or-eq_default targets [] other)
 ]
 
-each_short : (bytes : List ℕ) (at : ℕ) (targets : List (List WSym)) → All (IsString (first_setting bytes at)) targets → (k : ℕ) → length (target_in targets k) ≤ most_symbols
+pub each_short : (bytes : List ℕ) (at : ℕ) (targets : List (List WSym)) → All (IsString (first_setting bytes at)) targets → (k : ℕ) → length (target_in targets k) ≤ most_symbols
 each_short bytes at targets h k = elim (cases_lt (k - 1) (length targets)) [
   | inl own ↦ (h (k - 1) [] own).short
   | inr other ↦ omega (arith, ap (λ (s : List WSym). length s) (get_or-eq_default targets [] other))

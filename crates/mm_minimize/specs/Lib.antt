@@ -4,6 +4,7 @@ pub mod Minimising
 pub mod Chains
 pub mod Replacing
 pub mod Serving
+pub mod Constants
 pub mod Fits
 pub mod Targets
 pub mod Passages

@@ -4,6 +4,7 @@
 mod attempt;
 mod bases;
 mod combining;
+mod constants;
 mod fault;
 mod fitting;
 mod laws;
