@@ -12,11 +12,21 @@ use mm_subst::{WStr, WSym};
 use std::alloc::{AllocError, Global};
 use std::marker::Model;
 
+/// Strings are kept by their places in so many lists.
+const BUCKETS: usize = 4096;
+
+/// Places of strings with one hash.
+#[derive(Drop)]
+pub struct Bucket {
+    places: Vec<usize>,
+}
+
 /// The targets of the steps of a proof, each different string once.
 #[derive(Drop)]
 pub struct Targets {
     different: Vec<Target>,
     numbers: Vec<usize>,
+    buckets: Vec<Bucket>,
 }
 
 impl Model for Targets {
@@ -47,29 +57,79 @@ fn is_same_string(one: &[WSym], other: &[WSym]) -> bool
     true
 }
 
-/// The place of a string among some targets.
-fn place_of(different: &[Target], string: &[WSym]) -> Option<usize>
+/// Which list holds a string.
+fn bucket_of(string: &[WSym]) -> usize
+    ensures { result < BUCKETS }
+{
+    let mut hash: u64 = 0;
+    for symbol in string {
+        let number = match *symbol {
+            WSym::Const(number) | WSym::Var(number) | WSym::Work(number) => number,
+        };
+        hash = (hash * 31 + number as u64) % BUCKETS as u64;
+    }
+    hash as usize
+}
+
+/// Makes the lists, where there are none yet.
+fn fill(alloc: Global, buckets: &mut Vec<Bucket>) -> Result<(), AllocError> {
+    for _ in buckets.len()..BUCKETS {
+        let places = Vec::new(alloc);
+        buckets.push(Bucket { places })?;
+    }
+    Ok(())
+}
+
+/// The place of a string among those of the targets that stand at some places.
+fn place_of(different: &[Target], places: &[usize], string: &[WSym]) -> Option<usize>
     ensures within { IfSome result (λ n. n < length different.now) }
     ensures is { IfSome result (λ n. string_at different.now n ≡ string.now) }
 {
-    for (n, target) in different.iter().enumerate() {
-        if is_same_string(target.string.symbols(), string) {
+    for place in places {
+        let n = *place;
+        if n < different.len() && is_same_string(different[n].string.symbols(), string) {
             return Some(n);
         }
     }
     None
 }
 
+/// The place of a string among some targets, where it is among them.
+fn find(different: &[Target], buckets: &[Bucket], string: &[WSym]) -> Option<usize>
+    ensures within { IfSome result (λ n. n < length different.now) }
+    ensures is { IfSome result (λ n. string_at different.now n ≡ string.now) }
+{
+    match buckets.get(bucket_of(string)) {
+        Some(bucket) => place_of(different, bucket.places.as_slice(), string),
+        None => None,
+    }
+}
+
+/// Notes the place of a string.
+fn note(buckets: &mut Vec<Bucket>, string: &[WSym], place: usize) -> Result<(), AllocError> {
+    let number = bucket_of(string);
+    if number < buckets.len() {
+        buckets[number].places.push(place)?;
+    }
+    Ok(())
+}
+
 /// The place of the target of the next step, which is appended where it is new.
-fn place_for(different: &mut Vec<Target>, count: usize, target: WStr) -> Result<usize, AllocError>
+fn place_for(
+    different: &mut Vec<Target>,
+    buckets: &mut Vec<Bucket>,
+    count: usize,
+    target: WStr,
+) -> Result<usize, AllocError>
     requires { count < most_steps }
     ensures place { IfOk result (λ n. IsPlaced different.old.items different.new.items count target n) }
     ensures err { OnErr result (different.new.items ≡ different.old.items) }
 {
-    if let Some(number) = place_of(different.as_slice(), target.symbols()) {
+    if let Some(number) = find(different.as_slice(), buckets.as_slice(), target.symbols()) {
         return Ok(number);
     }
     let number = different.len();
+    note(buckets, target.symbols(), number)?;
     let first = count as u32 + 1;
     different.push(Target {
         string: target,
@@ -86,17 +146,20 @@ impl Targets {
         Targets {
             different: Vec::new(alloc),
             numbers: Vec::new(alloc),
+            buckets: Vec::new(alloc),
         }
     }
 
     /// Appends the target of the next step. Where that is refused the targets are as before.
-    pub fn push(&mut self, target: WStr) -> Result<(), AllocError>
+    pub fn push(&mut self, alloc: Global, target: WStr) -> Result<(), AllocError>
         requires { length self.old < most_steps }
         ensures ok { OnOk result (self.new ≡ self.old ++ target ∷ []) }
         ensures err { OnErr result (self.new ≡ self.old) }
     {
         self.numbers.reserve(1)?;
-        let number = place_for(&mut self.different, self.numbers.len(), target)?;
+        fill(alloc, &mut self.buckets)?;
+        let count = self.numbers.len();
+        let number = place_for(&mut self.different, &mut self.buckets, count, target)?;
         self.numbers.push(number)?;
         Ok(())
     }
