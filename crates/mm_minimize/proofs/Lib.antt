@@ -1,3 +1,4 @@
 pub mod ChainLemmas
 pub mod CombinationLemmas
 pub mod BaseLemmas
+pub mod ExchangeLemmas

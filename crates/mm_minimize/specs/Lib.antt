@@ -3,3 +3,8 @@ pub mod Combinations
 pub mod Minimising
 pub mod Chains
 pub mod Replacing
+pub mod Serving
+pub mod Exchanging
+pub mod Measures
+pub mod Admission
+pub mod Shortening
