@@ -24,7 +24,7 @@ use Rattle.mm_plain.specs.Valid.{most_levels, most_steps}
 use Rattle.mm_plain.proofs.Fresh.{keys-fresh}
 use Rattle.mm_plain.proofs.Works.{applied-plain, statement-with_values}
 use Rattle.mm_improve.specs.Assertions as improve
-use Rattle.mm_minimize.specs.Combinations.{Combination, children_by, combinations, combinations_from, essentials_of, extensions, if_small, pattern_of, replacement, steps_below, tree_by}
+use Rattle.mm_minimize.specs.Combinations.{Combination, children_by, combinations, combinations_by, essentials_of, extensions, if_small, pattern_of, replacement, steps_below, target_at, tree_by}
 use Rattle.mm_minimize.specs.Replacing.{HasPlainTargets, IsReplacement, ProvesGoals, ReplacementsFit}
 use Rattle.mm_minimize.proofs.ChainLemmas.{first_given, numbers_within}
 
@@ -119,13 +119,13 @@ module _ (c : improve.Terms) (x : Plain) (s : ℕ) (plain : HasPlainTargets x) w
     pub steps_are : q.steps ≡ ks ++ more
     pub matched : Matched q.values hs more
 
-  go_on : (hs : List (List WSym)) (values : Pairs) (ks : List ℕ) → WorkKeys values → AllByRecursion (GoesOn hs values ks) (combinations_from c x s hs values ks)
+  go_on : (hs : List (List WSym)) (values : Pairs) (ks : List ℕ) → WorkKeys values → AllByRecursion (GoesOn hs values ks) (combinations_by (extensions c) (target_at x) s hs values ks)
   go_on [] values ks work = (record { work = work; keeps = λ p t h is. is; more = []; steps_are = sym (append-nil ks); matched = tt }, tt)
   go_on (h ∷ hs) values ks work =
-      all_flat (λ k. (1 ≤ k) × (k < 1 + (s - 1))) (GoesOn (h ∷ hs) values ks) (λ k. flat_map (λ v. combinations_from c x s hs v (ks ++ k ∷ [])) (extensions c (target_of (step_at x k)) h values))
+      all_flat (λ k. (1 ≤ k) × (k < 1 + (s - 1))) (GoesOn (h ∷ hs) values ks) (λ k. flat_map (λ v. combinations_by (extensions c) (target_at x) s hs v (ks ++ k ∷ [])) (extensions c (target_of (step_at x k)) h values))
       (λ k within.
-      all_flat (Extends values (target_of (step_at x k)) h) (GoesOn (h ∷ hs) values ks) (λ v. combinations_from c x s hs v (ks ++ k ∷ []))
-      (λ v e. all_implied (GoesOn hs v (ks ++ k ∷ [])) (GoesOn (h ∷ hs) values ks) (λ q g. one_more k v q e g) (combinations_from c x s hs v (ks ++ k ∷ [])) (go_on hs v (ks ++ k ∷ []) e.work))
+      all_flat (Extends values (target_of (step_at x k)) h) (GoesOn (h ∷ hs) values ks) (λ v. combinations_by (extensions c) (target_at x) s hs v (ks ++ k ∷ []))
+      (λ v e. all_implied (GoesOn hs v (ks ++ k ∷ [])) (GoesOn (h ∷ hs) values ks) (λ q g. one_more k v q e g) (combinations_by (extensions c) (target_at x) s hs v (ks ++ k ∷ [])) (go_on hs v (ks ++ k ∷ []) e.work))
       (extensions c (target_of (step_at x k)) h values) (extended c (target_of (step_at x k)) h values (plain k) work))
       (steps_below s) (numbers_within 1 (s - 1))
     where
@@ -144,18 +144,18 @@ module _ (c : improve.Terms) (x : Plain) (s : ℕ) (plain : HasPlainTargets x) w
     pub equal : applied q.values (pattern_of c.bytes id id) ≡ target_of (step_at x s)
     pub matched : Matched q.values (map (pattern_of c.bytes id) (essentials_of c.bytes id)) q.steps
 
-  combine : (id : ℕ) → AllByRecursion (Combines id) (combinations c x s id)
+  combine : (id : ℕ) → AllByRecursion (Combines id) (combinations c (target_at x) s id)
   unfolding combinations
   combine id =
       let hs : List (List WSym) = map (pattern_of c.bytes id) (essentials_of c.bytes id) in
-      all_flat (Extends [] (target_of (step_at x s)) (pattern_of c.bytes id id)) (Combines id) (λ v. combinations_from c x s hs v [])
+      all_flat (Extends [] (target_of (step_at x s)) (pattern_of c.bytes id id)) (Combines id) (λ v. combinations_by (extensions c) (target_at x) s hs v [])
       (λ v e.
       all_implied (GoesOn hs v []) (Combines id)
       (λ q g. record {
         work = g.work;
         equal = g.keeps (pattern_of c.bytes id id) (target_of (step_at x s)) (plain s) e.equal;
         matched = subst (λ (ks : List ℕ). Matched q.values hs ks) (sym g.steps_are) g.matched;
-      }) (combinations_from c x s hs v []) (go_on hs v [] e.work))
+      }) (combinations_by (extensions c) (target_at x) s hs v []) (go_on hs v [] e.work))
       (extensions c (target_of (step_at x s)) (pattern_of c.bytes id id) []) (extended c (target_of (step_at x s)) (pattern_of c.bytes id id) [] (plain s) tt)
 
   -- ## Trees
@@ -239,5 +239,5 @@ module _ (c : improve.Terms) (x : Plain) (s : ℕ) (plain : HasPlainTargets x) w
 pub replacements_are : ReplacementsFit
 unfolding replacement
 replacements_are c prove x new s id proves plain e =
-    let g = first_given (Combines c x s plain id) (tree_by c prove x s id) (combinations c x s id) new (combine c x s plain id) e in
+    let g = first_given (Combines c x s plain id) (tree_by c prove x s id) (combinations c (target_at x) s id) new (combine c x s plain id) e in
     replaces c x s plain prove proves id g.from g.has new g.is

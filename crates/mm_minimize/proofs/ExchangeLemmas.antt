@@ -119,17 +119,17 @@ steps_taken (y ∷ ys) (suc i) = omega (arith, sum_by-cons size_of y (take i ys)
 -- ## The step over them
 
 module _ (x : Plain) (s id : ℕ) (sigma : Pairs) (low : 1 ≤ s) (high : s ≤ size_of x) where
-  abbrev aim : List WSym
+  abbrev pub aim : List WSym
   aim = target_of (step_at x s)
 
   -- the number of the step once it is cleared
-  abbrev first : ℕ
+  abbrev pub first : ℕ
   first = s + 1 - size_of (step_at x s)
 
-  abbrev over : List Plain → Plain
+  abbrev pub over : List Plain → Plain
   over ys = exchanged x s id sigma ys
 
-  abbrev step : List Plain → Plain
+  abbrev pub step : List Plain → Plain
   step ys = step_over x s id sigma ys
 
   first_is : first ≡ number_in x s (size_of (unknown aim))

@@ -34,23 +34,27 @@ extensions c target pattern values =
 abbrev pub steps_below : ℕ → List ℕ
 steps_below s = range_with_len 1 (s - 1)
 
--- the combinations that begin with values and steps, for the `$e` hypotheses that are left: for each of them in turn a step
--- below s, and directly after it a unifier of that step's target with the hypothesis
-abbrev pub combinations_from : improve.Terms → Plain → ℕ → List (List WSym) → Pairs → List ℕ → List Combination
-combinations_from c x s [] values ks = record { values = values; steps = ks } ∷ []
-combinations_from c x s (h ∷ hs) values ks =
-    flat_map (λ k. flat_map (λ v. combinations_from c x s hs v (ks ++ k ∷ [])) (extensions c (target_of (step_at x k)) h values)) (steps_below s)
+-- The combinations that begin with values and steps, for the `$e` hypotheses that are left: for each of them in turn a step
+-- below s, and directly after it values under which the hypothesis is that step's target. How such values are found, and
+-- what the target of a step is, is given.
+abbrev pub combinations_by : (List WSym → List WSym → Pairs → List Pairs) → (ℕ → List WSym) → ℕ → List (List WSym) → Pairs → List ℕ → List Combination
+combinations_by found target s [] values ks = record { values = values; steps = ks } ∷ []
+combinations_by found target s (h ∷ hs) values ks =
+    flat_map (λ k. flat_map (λ v. combinations_by found target s hs v (ks ++ k ∷ [])) (found (target k) h values)) (steps_below s)
 
 -- the `$e` hypotheses of an assertion, in order
 abbrev pub essentials_of : List ℕ → ℕ → List ℕ
 essentials_of bytes id = filter (λ m. is_essential (stated_at bytes m).kind) (premise_ids bytes id)
 
--- All combinations of an assertion for a step, in order: first a match of its conclusion, then step and unifier for each
--- `$e` hypothesis.
-unfoldable pub combinations : improve.Terms → Plain → ℕ → ℕ → List Combination
-combinations c x s id =
-    flat_map (λ v. combinations_from c x s (map (pattern_of c.bytes id) (essentials_of c.bytes id)) v [])
-    (extensions c (target_of (step_at x s)) (pattern_of c.bytes id id) [])
+-- All combinations of an assertion for a step, in order, where steps have these targets: first a match of its conclusion,
+-- then step and unifier for each `$e` hypothesis.
+unfoldable pub combinations : improve.Terms → (ℕ → List WSym) → ℕ → ℕ → List Combination
+combinations c target s id =
+    flat_map (λ v. combinations_by (extensions c) target s (map (pattern_of c.bytes id) (essentials_of c.bytes id)) v []) (extensions c (target s) (pattern_of c.bytes id id) [])
+
+-- the target of a step of a proof
+abbrev pub target_at : Plain → ℕ → List WSym
+target_at x k = target_of (step_at x k)
 
 -- a proof that isn't too large
 abbrev pub if_small : Plain → Option Plain
@@ -73,4 +77,4 @@ tree_by c prove x s id q =
 
 -- the replacement of a step by an assertion: the tree by the first combination that serves
 unfoldable pub replacement : improve.Terms → (List WSym → Option Plain) → Plain → ℕ → ℕ → Option Plain
-replacement c prove x s id = slice_get (filter_map (tree_by c prove x s id) (combinations c x s id)) 0
+replacement c prove x s id = slice_get (filter_map (tree_by c prove x s id) (combinations c (target_at x) s id)) 0

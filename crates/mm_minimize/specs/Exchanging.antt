@@ -1,5 +1,6 @@
 -- A step that names an assertion in the place of an old one, over trees that are at hand.
-use Rattle.std.specs.Prelude.{◌≡◌, ℕ, ◌≤◌, ◌<◌, List, [], ◌∷◌, map, length, drop, slice_index, Option, Some, Result, Ok, Err, MatchBool}
+use Rattle.std.specs.Prelude.{◌≡◌, ℕ, ◌≤◌, ◌<◌, List, [], ◌∷◌, map, length, drop, slice_index, option_and_then, Option, Some, Result, Ok, Err}
+use Rattle.std.specs.Bool.{MatchBool}
 use Rattle.mm_scope.specs.Contents.{stated_at}
 use Rattle.mm_stated.specs.Stated.{is_essential}
 use Rattle.mm_subst.specs.declared.symbol.WSym.{WSym}
@@ -11,7 +12,7 @@ use Rattle.mm_plain.specs.Grafts.{grafted_in}
 use Rattle.mm_plain.specs.Valid.{IsString, first_setting, most_levels, most_steps}
 use Rattle.mm_tree.specs.Trees.{State}
 use Rattle.mm_improve.specs.Assertions as improve
-use Rattle.mm_minimize.specs.Serving.{float_proof}
+use Rattle.mm_minimize.specs.Combinations.{if_small}
 use Rattle.mm_minimize.specs.declared.fault.MinimizeFault.{MinimizeFault}
 use Rattle.mm_minimize.specs.declared.fault.MinimizeFault.TheVariants.{NotComplete, NothingChanged, TooManySteps, TooDeep, Memory}
 
@@ -26,6 +27,10 @@ step_over x s id sigma kids = known (target_of (step_at x s)) id sigma kids
 -- the proof with such a step in the place of the old one
 abbrev pub exchanged : Plain → ℕ → ℕ → Pairs → List Plain → Plain
 exchanged x s id sigma kids = put x s (step_over x s id sigma kids)
+
+-- the proof of the goal of a `$f` hypothesis under a substitution, where there is one that isn't too large
+abbrev pub float_proof : improve.Terms → (List WSym → Option Plain) → Pairs → ℕ → Option Plain
+float_proof c prove sigma m = option_and_then if_small (prove (applied sigma (statement_of c.bytes m)))
 
 -- What the trees for the hypotheses of an assertion are made of: for each `$e` a step of the proof, for each `$f` a goal that
 -- has a proof which isn't too large.

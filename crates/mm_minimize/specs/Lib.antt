@@ -5,6 +5,8 @@ pub mod Chains
 pub mod Replacing
 pub mod Serving
 pub mod Exchanging
+pub mod Faults
 pub mod Measures
+pub mod Tables
 pub mod Admission
 pub mod Shortening

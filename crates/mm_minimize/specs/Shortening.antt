@@ -9,17 +9,21 @@ use Rattle.mm_plain.specs.Premises.{premises_of}
 use Rattle.mm_plain.specs.Shape.{Each, Proof, height_of, size_of, steps_of, target_of}
 use Rattle.mm_plain.specs.Valid.{IsValid, most_levels, most_steps}
 use Rattle.mm_subst.specs.Symbols.{has_work}
+use Rattle.mm_subst.specs.declared.symbol.WSym.{WSym}
 use Rattle.mm_tree.specs.Versions.{Versions, IsAlive, IsKept, is_draft}
 use Rattle.mm_tree.specs.declared.tree.Mark.{Mark}
 use Rattle.mm_improve.specs.declared.database.Search.{Search}
 use Rattle.mm_minimize.specs.Exchanging.{exchanged, plain_trees}
 use Rattle.mm_minimize.specs.Minimising.{Minimised, bytes_of, with_used}
-use Rattle.mm_minimize.specs.Serving.{targets_in}
 use Rattle.mm_minimize.specs.declared.fault.MinimizeFault.{MinimizeFault}
 use Rattle.mm_minimize.specs.declared.fault.MinimizeFault.TheVariants.{NotComplete, NothingChanged, TooManySteps, TooDeep, Memory}
 use Rattle.mm_minimize.specs.declared.minimizing.Minimized.{Minimized}
 use Rattle.mm_minimize.specs.declared.reading.Reading.{Reading}
 use Rattle.mm_minimize.specs.declared.replacement.Replacement.{Replacement}
+
+-- the targets of the steps of a proof
+abbrev pub targets_in : Plain → List (List WSym)
+targets_in x = map target_of (steps_of x)
 
 -- what was read off a proof
 pub record IsReading (bytes : List ℕ) (at : ℕ) (x : Plain) (r : Reading) : Type 0 where

@@ -11,7 +11,7 @@ use mm_trace::{Trace, matches};
 use std::alloc::{AllocError, Global};
 
 /// Whether a pattern matches the label of a statement.
-fn is_named(db: &Database, pattern: &[u8], id: StmtId) -> bool
+pub(crate) fn is_named(db: &Database, pattern: &[u8], id: StmtId) -> bool
     requires { id.0 < length (labels_of db.now) }
     ensures { result ≡ is_named db.now pattern.now id.0 }
 {

@@ -2,6 +2,7 @@
 
 ghost use Rattle.std.specs.Prelude.{◌≡◌, ◌<◌, ◌&&◌, ◌||◌, ℕ, Bool, not, false, IfOk, IfSome, IsNone, get_or, length};
 ghost use Rattle.mm_scope.specs.Contents.{labels_of, stated_at};
+ghost use Rattle.mm_scope.specs.Description.{is_usage_guarded};
 ghost use Rattle.mm_stated.specs.Stated.{is_hypothesis};
 ghost use Rattle.mm_plain.specs.declared.plain.Plain.{Plain};
 ghost use Rattle.mm_plain.specs.Numbers.{labels_in};

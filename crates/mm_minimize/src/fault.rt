@@ -1,8 +1,10 @@
 //! Why a proof is not made shorter.
 
 ghost use Rattle.std.specs.Prelude.{◌≡◌};
+ghost use Rattle.mm_minimize.specs.Faults.{graft_fault_of};
 ghost use Rattle.mm_minimize.specs.declared.fault.MinimizeFault.TheVariants.{Memory};
 
+use mm_tree::GraftFault;
 use std::alloc::AllocError;
 use thiserror::Error;
 
@@ -31,5 +33,17 @@ impl From<AllocError> for MinimizeFault {
 
     fn from(_e: AllocError) -> MinimizeFault {
         MinimizeFault::Memory
+    }
+}
+
+impl From<GraftFault> for MinimizeFault {
+    ghost from_gives = { λ g e. e ≡ graft_fault_of g };
+
+    fn from(fault: GraftFault) -> MinimizeFault {
+        match fault {
+            GraftFault::TooManySteps => MinimizeFault::TooManySteps,
+            GraftFault::TooDeep => MinimizeFault::TooDeep,
+            GraftFault::Memory => MinimizeFault::Memory,
+        }
     }
 }

@@ -12,8 +12,7 @@ ghost use Rattle.mm_improve.specs.Laying.{IsReady};
 ghost use Rattle.mm_improve.specs.Proving.{chosen_tree};
 ghost use Rattle.mm_improve.specs.Searches.{terms};
 ghost use Rattle.mm_minimize.specs.Combinations.{children_by};
-ghost use Rattle.mm_minimize.specs.Exchanging.{HasSources, plain_trees};
-ghost use Rattle.mm_minimize.specs.Serving.{float_proof};
+ghost use Rattle.mm_minimize.specs.Exchanging.{HasSources, float_proof, plain_trees};
 
 use mm_base::Steps;
 use mm_improve::{ImproveFault, Prover};

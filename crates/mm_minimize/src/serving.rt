@@ -1,7 +1,7 @@
 //! The first combination of an assertion that serves at a step.
 
 ghost use Rattle.std.specs.Prelude.{◌≡◌, ◌<◌, ◌≤◌, All, IfOk, false, length};
-ghost use Rattle.mm_scope.specs.Contents.{stated_at};
+ghost use Rattle.mm_scope.specs.Contents.{labels_of, stated_at};
 ghost use Rattle.mm_stated.specs.Stated.{is_hypothesis};
 ghost use Rattle.mm_plain.specs.Valid.{IsString, first_setting};
 ghost use Rattle.mm_improve.specs.Laying.{IsReady};
@@ -16,9 +16,9 @@ use mm_subst::{Memory, Subst};
 use std::alloc::Global;
 use std::marker::Model;
 
-/// A combination that serves: what the variables of the assertion stand for, and the steps for its `$e` hypotheses in order.
+/// What the variables of an assertion stand for, and steps for its `$e` hypotheses in order.
 #[derive(Drop)]
-pub(crate) struct Serving {
+pub struct Serving {
     pub sigma: Subst,
     pub steps: Vec<u32>,
 }
@@ -32,7 +32,7 @@ impl Model for Serving {
 }
 
 /// The first combination of an assertion that serves at a step; `None` where none does.
-pub(crate) fn first_serving(
+pub fn first_serving(
     alloc: Global,
     db: &Database,
     prover: &Prover,
@@ -40,11 +40,12 @@ pub(crate) fn first_serving(
     step: u32,
     id: StmtId,
 ) -> Result<Option<Serving>, Memory>
+    requires own { id.0 < length (labels_of db.now) }
+    requires assertion { is_hypothesis (stated_at db.now id.0).kind ≡ false }
     requires ready { IsReady db.now prover.now }
     requires strings { All (IsString (first_setting db.now prover.now.search.at.0)) targets.now }
-    requires exists { (1 ≤ step) × (step ≤ length targets.now) }
-    requires earlier { id.0 < prover.now.search.at.0 }
-    requires assertion { is_hypothesis (stated_at db.now id.0).kind ≡ false }
+    requires some { 1 ≤ step }
+    requires within { step ≤ length targets.now }
     ensures { IfOk result (λ o. o ≡ first_serving (terms db.now prover.now.search) (chosen_tree (terms db.now prover.now.search)) targets.now step id.0) }
 {
     let _ = alloc;

@@ -1,16 +1,15 @@
 //! The targets of the steps of a proof.
 
-ghost use Rattle.std.specs.Prelude.{◌≡◌, IfOk};
-ghost use Rattle.mm_minimize.specs.Serving.{targets_in};
+ghost use Rattle.std.specs.Prelude.{◌≡◌, ◌<◌, ◌++◌, ◌∷◌, [], length, OnErr, OnOk};
+ghost use Rattle.mm_plain.specs.Valid.{most_steps};
 
-use mm_subst::{Memory, WStr};
-use mm_tree::Tree;
-use std::alloc::Global;
+use mm_subst::WStr;
+use std::alloc::{AllocError, Global};
 use std::marker::Model;
 
 /// The targets of the steps of a proof, in order.
 #[derive(Drop)]
-pub(crate) struct Targets {
+pub struct Targets {
     strings: Vec<WStr>,
 }
 
@@ -24,12 +23,22 @@ impl Model for Targets {
 }
 
 impl Targets {
-    /// The targets of the steps of a tree.
-    pub(crate) fn of(alloc: Global, tree: &Tree) -> Result<Targets, Memory>
-        ensures { IfOk result (λ t. t ≡ targets_in tree.now.proof.plain) }
+    /// The targets of no step. This takes no memory.
+    pub fn new(alloc: Global) -> Targets
+        ensures { result ≡ [] }
     {
-        let _ = tree;
-        let _ = Vec::<WStr>::new(alloc);
-        Err(Memory)
+        Targets {
+            strings: Vec::new(alloc),
+        }
+    }
+
+    /// Appends the target of the next step. Where that is refused the targets are as before.
+    pub fn push(&mut self, target: WStr) -> Result<(), AllocError>
+        requires { length self.old < most_steps }
+        ensures ok { OnOk result (self.new ≡ self.old ++ target ∷ []) }
+        ensures err { OnErr result (self.new ≡ self.old) }
+    {
+        self.strings.push(target)?;
+        Ok(())
     }
 }
