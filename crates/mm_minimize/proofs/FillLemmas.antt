@@ -5,16 +5,18 @@ use Rattle.std.specs.List.{sum_by}
 use Rattle.mm_subst.specs.declared.symbol.WSym.{WSym}
 use Rattle.mm_subst.specs.Substitutions.{Pairs, applied}
 use Rattle.mm_plain.specs.declared.plain.Plain.{Plain}
-use Rattle.mm_plain.specs.Grafts.{cleared, grafted_in}
+use Rattle.mm_plain.specs.Grafts.{cleared, cleared_in, grafted_in}
+use Rattle.mm_plain.specs.Premises.{premises_of}
 use Rattle.mm_plain.specs.Shape.{Proof, greatest, height_of, placed, put, size_of, step_at, unknown, unknowns}
 use Rattle.mm_plain.specs.Sources.{label_of}
-use Rattle.mm_plain.specs.Valid.{most_levels, most_steps}
+use Rattle.mm_plain.specs.Valid.{most_levels, most_steps, placed_in}
 use Rattle.mm_plain.proofs.Equations.{size_of-pos}
 use Rattle.mm_plain.proofs.Parts.{size-cleared}
 use Rattle.mm_plain.proofs.Puts.{size-before}
 use Rattle.mm_tree.specs.Placed.{IsPlaced}
 use Rattle.mm_tree.specs.Replacing.{number_cleared}
 use Rattle.mm_tree.specs.Trees.{State}
+use Rattle.mm_tree.specs.Versions.{Versions, BeginsAlike, KeepsMarks}
 use Rattle.mm_tree.specs.declared.fault.GraftFault.{GraftFault}
 use Rattle.mm_tree.specs.declared.fault.GraftFault.TheVariants as graft
 use Rattle.mm_minimize.specs.Exchanging.{IsExchanged, exchanged, step_over}
@@ -30,6 +32,20 @@ cleared_number x s old now low high was is =
     let pos = size_of-pos (step_at x s) in
     let before = size-before x s low high in
     (omega (arith, all, pos, was, is), omega (arith, all, pos, before, was, is), omega (arith, all, pos, before, was, is))
+
+-- the step named over unknown ones
+pub fill_begin : (bytes : List ℕ) (p old q : Proof) (s n id : ℕ) (sigma : Pairs) → 1 ≤ s → s ≤ size_of p.plain → old ≡ cleared_in p s → n ≡ number_cleared p.plain s → q ≡ placed_in bytes old n id sigma
+    → q ≡ record { plain = exchanged p.plain s id sigma (unknowns sigma (premises_of bytes id)); next = p.next }
+fill_begin bytes p old q s n id sigma low high was number is =
+    is ∙ ap (λ (m : ℕ). placed_in bytes old m id sigma) number
+    ∙ ap (λ (r : Proof). placed_in bytes r (number_cleared p.plain s) id sigma) was
+    ∙ ap (λ (z : Plain). record { plain = z; next = p.next }) (placed_over p.plain s id sigma low high (premises_of bytes id))
+
+pub keeps_along : (u v w : Versions) → KeepsMarks u v → KeepsMarks v w → KeepsMarks u w
+keeps_along u v w h k m alive = let p = h m alive in let q = k m p.alive in record { alive = q.alive; same = q.same ∙ p.same }
+
+pub begins_along : (u v w : Versions) → BeginsAlike u v → BeginsAlike v w → BeginsAlike u w
+begins_along u v w h k = (k.0 ∙ h.0, k.1 ∙ h.1)
 
 module _ (x : Plain) (s id : ℕ) (sigma : Pairs) (premises : List (List WSym)) (kids : List Plain) (low : 1 ≤ s) (high : s ≤ size_of x) (many : length kids ≡ length premises) where
   abbrev us : List Plain

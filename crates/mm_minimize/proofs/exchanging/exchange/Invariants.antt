@@ -1,7 +1,8 @@
-use Rattle.std.proofs.Common.{◌≡◌, ◌+◌, take}
+use Rattle.std.proofs.Common.{◌≡◌, ◌+◌, ◌≤◌, take}
 use Rattle.std.specs.List.{sum_by}
 use Rattle.mm_plain.specs.Premises.{premises_of}
-use Rattle.mm_plain.specs.Shape.{size_of, unknowns}
+use Rattle.mm_plain.specs.Shape.{height_of, size_of, unknowns}
+use Rattle.mm_plain.specs.Valid.{most_levels}
 use Rattle.mm_tree.specs.Replacing.{number_cleared}
 use Rattle.mm_tree.specs.Versions.{BeginsAlike, KeepsMarks}
 use Rattle.mm_minimize.specs.Exchanging.{exchanged, plain_trees}
@@ -15,6 +16,7 @@ invariant-loop-part g l = record {
     next = l.fn.tree.proof.next;
   };
   number : l.next ≡ number_cleared l.fn.tree.proof.plain l.fn.step + sum_by size_of (take l.part-index (plain_trees l.parts));
+  low : height_of l.tree.proof.plain ≤ most_levels;
   marks : KeepsMarks l.fn.tree.versions l.tree.versions;
   begun : BeginsAlike l.fn.tree.versions l.tree.versions;
 }
