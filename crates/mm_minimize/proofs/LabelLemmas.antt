@@ -2,9 +2,9 @@
 use Rattle.std.proofs.Common.{◌≡◌, ◌<◌, ◌+◌, ◌-◌, ◌≤◌, ◌&&◌, not, nat_eq, nat_lt, ℕ, zero, suc, Bool, true, false, cond, List, [], ◌∷◌, ◌++◌, map, take, drop, length, slice_index_or, Option, None, Some, All, refl, sym, ap, ◌∙◌, subst, arith, append_assoc, if◌then◌else◌}
 use Rattle.std.specs.List.{flat_map, AllByRecursion as ByRecursion}
 use Rattle.std.proofs.lemmas.Bool.{eq-eqb, eqb-true, true≢false}
-use Rattle.std.proofs.lemmas.List.{map-append}
+use Rattle.std.proofs.lemmas.List.{length-map, map-append}
 use Rattle.std.proofs.lemmas.List.Concat.{flat_map-cons}
-use Rattle.std.proofs.lemmas.List.Elements.{recursion_from_All}
+use Rattle.std.proofs.lemmas.List.Elements.{All-from_recursion, recursion_from_All}
 use Rattle.mm_scope.specs.Contents.{labels_of, find_label, stated_at}
 use Rattle.mm_stated.specs.Stated.{is_hypothesis}
 use Rattle.mm_tokens.specs.Words.{is_bad_label}
@@ -12,12 +12,12 @@ use Rattle.mm_subst.specs.declared.symbol.WSym.{WSym}
 use Rattle.mm_subst.specs.Substitutions.{Pairs}
 use Rattle.mm_plain.specs.declared.plain.Plain.{Plain}
 use Rattle.mm_plain.specs.Labels.{label_at}
-use Rattle.mm_plain.specs.Numbers.{IsOwnLabel, labels_in}
+use Rattle.mm_plain.specs.Numbers.{HasOwnLabels, IsOwnLabel, labels_in}
 use Rattle.mm_plain.specs.Premises.{may_stand}
-use Rattle.mm_plain.specs.Shape.{known, size_of, step_at, steps_of, target_of}
+use Rattle.mm_plain.specs.Shape.{Each, known, size_of, step_at, steps_of, target_of}
 use Rattle.mm_plain.specs.Sources.{label_of}
 use Rattle.mm_plain.specs.Valid.{Setting, IsSound}
-use Rattle.mm_plain.proofs.Equations.{steps_of-known}
+use Rattle.mm_plain.proofs.Equations.{length-steps_of, steps_of-known}
 use Rattle.mm_plain.proofs.Labels.{has_label}
 use Rattle.mm_plain.proofs.Nested.{labels_in-put}
 use Rattle.mm_plain.proofs.Read.{label_of-known}
@@ -177,3 +177,27 @@ own_each bytes (o ∷ os) h = (own_kind bytes o h.0, own_each bytes os h.1)
 
 pub own_steps : (bytes : List ℕ) (os : List (Option ℕ)) → All (IsOwnLabel bytes) os → ByRecursion (λ (s : ProofStep). IsOwn bytes s.kind) (map (step_for bytes) os)
 own_steps bytes os h = own_each bytes os (recursion_from_All (IsOwnLabel bytes) os h)
+
+own_steps_of : (bytes : List ℕ) (xs : List Plain) → Each (λ y. IsOwnLabel bytes (label_of y)) xs → ByRecursion (IsOwnLabel bytes) (map label_of xs)
+own_steps_of bytes [] e = tt
+own_steps_of bytes (x ∷ xs) e = (e.0, own_steps_of bytes xs e.1)
+
+own_labels : (bytes : List ℕ) (x : Plain) → HasOwnLabels bytes x → ByRecursion (IsOwnLabel bytes) (labels_in x)
+unfolding HasOwnLabels
+own_labels bytes x h = own_steps_of bytes (steps_of x) h
+
+-- the labels of a valid proof are the database's own
+pub all_own : (bytes : List ℕ) (x : Plain) → HasOwnLabels bytes x → All (IsOwnLabel bytes) (labels_in x)
+all_own bytes x h = All-from_recursion (IsOwnLabel bytes) (labels_in x) (own_labels bytes x h)
+
+-- some lists, one label and another list, appended in turn
+pub assembled : (none before front own all behind whole : List (Option ℕ)) (own_items : List (Option ℕ)) (o : Option ℕ) → none ≡ [] → front ≡ none ++ before → own ≡ front ++ own_items → all ≡ own ++ o ∷ [] → whole ≡ all ++ behind
+    → whole ≡ before ++ (own_items ++ o ∷ behind)
+assembled none before front own all behind whole own_items o e0 e1 e2 e3 e4 =
+    let f1 : front ≡ before = e1 ∙ ap (λ (xs : List (Option ℕ)). xs ++ before) e0 in
+    e4 ∙ ap (λ (xs : List (Option ℕ)). xs ++ behind) (e3 ∙ ap (λ (xs : List (Option ℕ)). xs ++ o ∷ []) (e2 ∙ ap (λ (xs : List (Option ℕ)). xs ++ own_items) f1))
+    ∙ append_assoc (before ++ own_items) (o ∷ []) behind
+    ∙ append_assoc before own_items (o ∷ behind)
+
+pub labels_many : (x : Plain) (labels : List (Option ℕ)) → labels ≡ labels_in x → length labels ≡ size_of x
+labels_many x labels e = ap length e ∙ length-map (steps_of x) label_of ∙ length-steps_of x

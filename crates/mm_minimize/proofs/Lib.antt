@@ -6,3 +6,4 @@ pub mod ExchangeLemmas
 pub mod FillLemmas
 pub mod LabelLemmas
 pub mod PassLemmas
+pub mod FloatLemmas

@@ -67,8 +67,10 @@ fn float_part<L: Ledger>(
     let goal = goal(alloc, db, sigma, id)?;
     match prover.prove(alloc, db, &goal, 0, steps) {
         Ok(Some(part)) => Ok(part),
+        Ok(None) => unreachable!(),
+        Err(ImproveFault::TooManySteps) => unreachable!(),
+        Err(ImproveFault::TooDeep) => unreachable!(),
         Err(ImproveFault::Memory) => Err(Memory),
-        Ok(None) | Err(ImproveFault::TooManySteps) | Err(ImproveFault::TooDeep) => unreachable!(),
     }
 }
 

@@ -57,12 +57,13 @@ pub(crate) fn labels_with(
     requires labels { labels.now ≡ labels_in tree.now.proof.plain }
     ensures { IfOk result (λ v. (sigma : Pairs) → v.items ≡ labels_in (exchanged tree.now.proof.plain step id.0 sigma (plain_trees parts.now))) }
 {
-    let before = steps_before(alloc, tree, step)?;
-    let mut new = Vec::new(alloc);
-    new.extend_from_slice(&labels[..before])?;
+    let (before, _) = labels.split_at(steps_before(alloc, tree, step)?);
+    let (_, behind) = labels.split_at(step as usize);
     let own = labels_of_parts(alloc, parts)?;
+    let mut new = Vec::new(alloc);
+    new.extend_from_slice(before)?;
     new.extend_from_slice(own.as_slice())?;
     new.push(Some(id.0))?;
-    new.extend_from_slice(&labels[step as usize..])?;
+    new.extend_from_slice(behind)?;
     Ok(new)
 }

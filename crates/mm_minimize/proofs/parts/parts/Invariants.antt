@@ -12,7 +12,7 @@ abbrev pub invariant-loop-premise : goal.invariant-loop-premise
 invariant-loop-premise g l = record {
   ready : IsReady l.db l.prover;
   search : l.prover.search ≡ l.initial.prover.search;
-  sources : HasSources (terms l.db l.initial.prover.search) (chosen_tree (terms l.db l.initial.prover.search)) l.tree.proof.plain l.sigma (drop l.premise-index (premise_ids l.db l.id.0)) (drop l.next l.numbers);
-  so_far : option_map (λ ys. plain_trees l.parts.items ++ ys) (children_by (terms l.db l.initial.prover.search) (chosen_tree (terms l.db l.initial.prover.search)) l.tree.proof.plain l.sigma (drop l.premise-index (premise_ids l.db l.id.0)) (drop l.next l.numbers))
-      ≡ children_by (terms l.db l.initial.prover.search) (chosen_tree (terms l.db l.initial.prover.search)) l.tree.proof.plain l.sigma (premise_ids l.db l.id.0) l.numbers;
+  sources : HasSources (terms l.db l.initial.prover.search) (chosen_tree (terms l.db l.initial.prover.search)) l.tree.proof.plain l.sigma (drop l.premise-index (premise_ids l.db l.fn.id.0)) (drop l.next l.numbers);
+  so_far : option_map (λ ys. plain_trees l.parts.items ++ ys) (children_by (terms l.db l.initial.prover.search) (chosen_tree (terms l.db l.initial.prover.search)) l.tree.proof.plain l.sigma (drop l.premise-index (premise_ids l.db l.fn.id.0)) (drop l.next l.numbers))
+      ≡ children_by (terms l.db l.initial.prover.search) (chosen_tree (terms l.db l.initial.prover.search)) l.tree.proof.plain l.sigma (premise_ids l.db l.fn.id.0) l.numbers;
 }
