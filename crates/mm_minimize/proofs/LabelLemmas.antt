@@ -34,6 +34,9 @@ use Rattle.mm_sound.specs.Complete.{kind_for, spelled, step_for}
 use Rattle.mm_sound.specs.LabelTrees.{label_tree}
 use Rattle.mm_sound.proofs.Labelled.{is_postorder, is_whole, number_for, spelled_is}
 use Rattle.mm_sound.proofs.Spelled.{MayStand, labels_stand, own_label}
+use Rattle.mm_improve.specs.Assertions as improve
+use Rattle.mm_minimize.specs.Candidates.{Terms}
+use Rattle.mm_minimize.specs.Minimising.{bytes_of, is_taken}
 use Rattle.mm_minimize.specs.Exchanging.{exchanged, step_over}
 use Rattle.mm_minimize.specs.Shortening.{are_same_labels, is_same_label}
 
@@ -201,3 +204,10 @@ assembled none before front own all behind whole own_items o e0 e1 e2 e3 e4 =
 
 pub labels_many : (x : Plain) (labels : List (Option ℕ)) → labels ≡ labels_in x → length labels ≡ size_of x
 labels_many x labels e = ap length e ∙ length-map (steps_of x) label_of ∙ length-steps_of x
+
+-- whether a tree is taken that may be longer, by labels
+pub taken_growing : (c : improve.Terms) (t : Terms) (x y : Plain) (next : ℕ) (labels : List (Option ℕ)) (b : Bool) → c.at < length (labels_of c.bytes) → t.may_grow ≡ true → labels_in y ≡ labels → b ≡ are_same_labels (labels_in x) labels
+    → IsSound (record { bytes = c.bytes; at = c.at; next = next }) x → IsSound (record { bytes = c.bytes; at = c.at; next = next }) y → not b ≡ is_taken c t x y
+taken_growing c t x y next labels b own grow e is v w =
+    ap not (is ∙ ap (are_same_labels (labels_in x)) (sym e) ∙ same_as_labels (record { bytes = c.bytes; at = c.at; next = next }) x y own v w)
+    ∙ sym (ap (λ (g : Bool). if g then not (same_tree (label_tree x) (label_tree y)) else nat_lt (bytes_of c.bytes c.at y) (bytes_of c.bytes c.at x)) grow)

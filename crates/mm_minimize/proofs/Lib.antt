@@ -7,3 +7,4 @@ pub mod FillLemmas
 pub mod LabelLemmas
 pub mod PassLemmas
 pub mod FloatLemmas
+pub mod SourceLemmas

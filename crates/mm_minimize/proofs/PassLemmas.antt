@@ -26,12 +26,12 @@ take_next [] i d less = absurd (omega (arith, less))
 take_next (x ∷ xs) zero d less = refl
 take_next (x ∷ xs) (suc i) d less = ap (λ (ys : List _). x ∷ ys) (take_next xs i d (omega (arith, less)))
 
-drop_next : {A : Type 0} (xs : List A) (i : ℕ) (d : A) → i < length xs → drop i xs ≡ get_or xs i d ∷ drop (suc i) xs
+pub drop_next : {A : Type 0} (xs : List A) (i : ℕ) (d : A) → i < length xs → drop i xs ≡ get_or xs i d ∷ drop (suc i) xs
 drop_next [] i d less = absurd (omega (arith, less))
 drop_next (x ∷ xs) zero d less = refl
 drop_next (x ∷ xs) (suc i) d less = drop_next xs i d (omega (arith, less))
 
-drop_past : {A : Type 0} (xs : List A) (i : ℕ) → length xs ≤ i → drop i xs ≡ []
+pub drop_past : {A : Type 0} (xs : List A) (i : ℕ) → length xs ≤ i → drop i xs ≡ []
 drop_past [] zero less = refl
 drop_past [] (suc i) less = refl
 drop_past (x ∷ xs) zero less = absurd (omega (arith, less))
