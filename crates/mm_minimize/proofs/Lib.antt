@@ -8,3 +8,4 @@ pub mod LabelLemmas
 pub mod PassLemmas
 pub mod FloatLemmas
 pub mod SourceLemmas
+pub mod TurnLemmas
