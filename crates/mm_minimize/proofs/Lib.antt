@@ -9,3 +9,4 @@ pub mod PassLemmas
 pub mod FloatLemmas
 pub mod SourceLemmas
 pub mod TurnLemmas
+pub mod FittingLemmas
