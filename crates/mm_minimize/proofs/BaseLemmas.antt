@@ -33,3 +33,6 @@ resting bytes trace test marks slice new is h same made =
       count = b.count ∙ trace_count bytes;
       each = λ k small. b.each k (omega (arith, small, trace_count bytes)) ∙ rests_same bytes test marks h k small;
     }
+
+pub marks_more : (test : ℕ → Bool) (n : ℕ) (old new : List Bool) (b : Bool) → AreMarks test n old → b ≡ test n → new ≡ old ++ b ∷ [] → AreMarks test (n + 1) new
+marks_more test n old new b h is made = subst (λ (v : List Bool). AreMarks test (n + 1) v) (sym made) (more_marks test n old b h is)

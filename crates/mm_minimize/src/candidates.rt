@@ -71,6 +71,23 @@ fn is_meant(db: &Database, wanted: &Wanted<'_>, id: StmtId) -> bool
         && (wanted.guarded_too || !db.usage_guarded(id))
 }
 
+/// Whether an assertion is meant, and doesn't rest on a forbidden statement.
+fn is_admitted(db: &Database, wanted: &Wanted<'_>, forbidden: &[bool], id: StmtId) -> bool
+    requires own { id.0 < length (labels_of db.now) }
+    requires marks { AreMarks (rests_on db.now (is_named db.now wanted.now.forbid.now)) (length (labels_of db.now)) forbidden.now }
+    ensures { result ≡ is_admitted db.now (terms_of wanted.now) id.0 }
+{
+    is_meant(db, wanted, id) && !is_marked(forbidden, id)
+}
+
+/// Whether a statement is an axiom of a pattern.
+fn is_watched(db: &Database, wanted: &Wanted<'_>, id: StmtId) -> bool
+    requires { id.0 < length (labels_of db.now) }
+    ensures { result ≡ is_watched db.now (terms_of wanted.now) id.0 }
+{
+    is_axiom(db, id) && is_named(db, wanted.no_new_axioms, id)
+}
+
 /// Marks on the assertions that are tried, as far as neither the proof nor their own proofs matter.
 fn admitted(
     alloc: Global,
@@ -84,8 +101,7 @@ fn admitted(
     let mut marks = Vec::new(alloc);
     for id in 0..db.count() {
         let id = StmtId(id);
-        let admitted = is_meant(db, wanted, id) && !is_marked(forbidden, id);
-        marks.push(admitted)?;
+        marks.push(is_admitted(db, wanted, forbidden, id))?;
     }
     Ok(marks)
 }
@@ -97,8 +113,7 @@ fn watched(alloc: Global, db: &Database, wanted: &Wanted<'_>) -> Result<Vec<bool
     let mut marks = Vec::new(alloc);
     for id in 0..db.count() {
         let id = StmtId(id);
-        let watched = is_axiom(db, id) && is_named(db, wanted.no_new_axioms, id);
-        marks.push(watched)?;
+        marks.push(is_watched(db, wanted, id))?;
     }
     Ok(marks)
 }
