@@ -146,6 +146,16 @@ class Player:
         choice = ['/CHOICE', str(self.random.choice([1, 1, 2, count, count, count + 1, 0]))] if self.chance(0.4) else []
         return self.said('UNIFY STEP', step, *choice)
 
+    def improve(self):
+        step = 'ALL' if self.chance(0.5) else self.step(lambda n: n.is_unknown and not has_work(n.target))
+        depth = ['/DEPTH', self.random.choice(['0', '1', '1', '2'])] if self.chance(0.4) else []
+        return self.said('IMPROVE', step, *depth, *(['/NO_DISTINCT'] if self.chance(0.2) else []))
+
+    def minimize(self):
+        """MINIMIZE_WITH, with luck where it finds something."""
+        limits = [word for name in ('EXCEPT', 'FORBID', 'NO_NEW_AXIOMS_FROM') if self.chance(0.2) for word in ('/' + name, self.pattern() or '*')]
+        return self.said('MINIMIZE_WITH', '*' if self.chance(0.6) else self.pattern() or '*', *limits, *self.qualifiers('MAY_GROW', 'OVERRIDE'))
+
     def setting(self):
         return self.random.choice([
             self.said('SET UNDO', self.random.choice(['0', '1', '2', '5', '1000', '1001'])),
@@ -196,8 +206,8 @@ class Player:
             lambda: self.said('INITIALIZE STEP', self.known_step()), lambda: self.said('INITIALIZE ALL'), lambda: self.said('DELETE STEP', self.known_step()),
             lambda: self.said('DELETE ALL'), lambda: self.said('DELETE FLOATING_HYPOTHESES'), lambda: self.said('UNDO'), lambda: self.said('REDO'),
             lambda: self.said('SHOW NEW_PROOF', *self.qualifiers('UNKNOWN')), lambda: self.said('SAVE NEW_PROOF', *self.qualifiers('NORMAL', 'COMPRESSED', 'COMPRESSED', 'OVERRIDE')),
-            lambda: self.said('SET UNDO', self.random.choice('01259'))
-        ], [50, 9, 5, 5, pending, 5, 4, 3, 5, 1, 2, 8, 5, 8, closed, 2])[0]
+            lambda: self.said('SET UNDO', self.random.choice('01259')), self.improve, self.minimize
+        ], [50, 9, 5, 5, pending, 5, 4, 3, 5, 1, 2, 8, 5, 8, closed, 2, 12, 2 * closed])[0]
         return line()
 
     def plan_trials(self):
@@ -213,6 +223,16 @@ class Player:
         if self.session.open and self.session.open.proof.root.size > 8:
             self.planned = [f'SAVE NEW_PROOF {self.random.choice(["", "/NORMAL", "/COMPRESSED", "/COMPRESSED"])} /OVERRIDE', 'WRITE SOURCE saved.mm', 'VERIFY PROOF *']
 
+    def plan_improvement(self):
+        """Plans to have proofs found for steps that were known."""
+        if self.session.open and self.session.open.proof.root.size > 1:
+            self.planned = ['DELETE FLOATING_HYPOTHESES', self.random.choice(['IMPROVE ALL', 'IMPROVE FIRST', 'IMPROVE ALL /DEPTH 1 /NO_DISTINCT']), 'SHOW NEW_PROOF']
+
+    def plan_shortening(self):
+        """Plans to make the proof shorter."""
+        if self.session.open and self.session.open.proof.root.size > 1:
+            self.planned = [self.random.choice(['MINIMIZE_WITH *', 'MINIMIZE_WITH * /MAY_GROW', self.minimize()]), 'SHOW NEW_PROOF']
+
     def plan_redo(self):
         """Plans REDO after a change of the depth of undo."""
         if self.session.open and self.session.open.future:
@@ -220,7 +240,7 @@ class Player:
 
     def next_line(self):
         if not self.planned and self.chance(0.15):
-            self.random.choice([self.plan_trials, self.plan_trials, self.plan_save, self.plan_save, self.plan_redo])()
+            self.random.choice([self.plan_trials, self.plan_trials, self.plan_save, self.plan_save, self.plan_redo, self.plan_improvement, self.plan_shortening])()
         if self.planned:
             return self.planned.pop(0)
         if not self.session.db:

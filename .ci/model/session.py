@@ -6,6 +6,7 @@ from .improving import Search, improve, improve_all
 from .limits import FIRST_TRIALS, FIRST_UNDO_DEPTH, MOST_BYTES, MOST_LINE_BYTES
 from .lines import LineFault, read_command
 from .machine import first_violation, verify
+from .minimizing import Minimizing, Terms, minimize
 from .proofs import encode_compressed, encode_normal
 from .strings import shown
 from .tracing import Trace, is_pattern, matches
@@ -91,6 +92,8 @@ class Session:
         if command is None:
             return []
         unless(command.name not in BUILT, NOT_BUILT)
+        if command.name == 'minimize':
+            return self.minimize(*command.arguments, **{name.replace(' ', '_'): value for name, value in command.qualifiers.items()})
         if command.name in EDITS:
             unless(not self.open, NO_PROOF)
             return self.edited(self.edit(command))
@@ -246,6 +249,16 @@ class Session:
             'delete floats': lambda: delete_floats(proof),
         }
         return whole[name]()
+
+    def minimize(self, pattern, **qualifiers):
+        unless(not self.open, NO_PROOF)
+        if not is_pattern(pattern):
+            self.statement(pattern)
+        names = {'except': 'excepted', 'forbid': 'forbidden', 'override': 'guarded_too'}
+        terms = Terms(pattern, **{names.get(name, name): value for name, value in qualifiers.items()})
+        search = Search(self.db, self.open.theorem, self.brackets, False)
+        proof, used, before, after = minimize(Minimizing(search, Trace(self.db), terms), self.open.proof)
+        return [b'Used %s.' % s.label for s in used] + [b'Bytes %d, now %d.' % (before, after)] + self.edited(proof)
 
     def edited(self, proof):
         """Takes an accepted edit into the history."""
